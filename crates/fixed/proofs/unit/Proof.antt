@@ -1,0 +1,16 @@
+-- `fixed::unit` meets its contract: the product of two numbers of at most one, scaled, is at most one.
+use Rattle.fixed.specs.Scaled.{one}
+use Rattle.fixed.proofs.Bounds.{fit, held, operand, product, scaled-is, to-small}
+use Rattle.fixed.proofs.unit.Statement.{statement}
+use Rattle.fixed.proofs.unit.Tie as tie
+
+scaled-requires : tie.Need-scaled-requires
+scaled-requires c κs = fit (product (operand (c .pre .0) tt) (operand (c .pre .1) tt)) tt
+
+returns : tie.Need-returns
+returns c =
+    let s = c .before in
+    to-small (held (scaled-is one (c .scaled .ensures) (operand (s .pre .0) tt) (operand (s .pre .1) tt) tt) tt)
+
+pub unit-spec : {M : Type 1} → statement M
+unit-spec = tie.close (tie.spec scaled-requires returns)

@@ -1,0 +1,3 @@
+-- The laws of halving that the crates above cite.
+pub mod Laws
+pub mod Loop

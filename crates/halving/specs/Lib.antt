@@ -1,0 +1,2 @@
+-- The definitions of `halving`.
+pub mod Halving

@@ -1,0 +1,2 @@
+-- The definitions that the contracts of `angle` cite.
+pub mod Turn

@@ -1,0 +1,30 @@
+-- Angles in units, a quarter turn being 1,073,741,824 of them (document 01, "From floats to whole numbers").
+use mathlib.Core.Bool.{cond}
+use Prim.Native.Nat.{ℕ, _+_, _-_, _%_, _^_}
+use lib.Ieee.{Float, lt}
+use Rattle.nearest.specs.Nearest.{turnsOf, number}
+
+abbrev pub quarterTurn : ℕ
+quarterTurn = 2 ^ 30
+
+abbrev pub halfTurn : ℕ
+halfTurn = 2 ^ 31
+
+abbrev pub turn : ℕ
+turn = 2 ^ 32
+
+-- negated modulo 2^32
+abbrev pub negateOf : ℕ → ℕ
+negateOf u = (turn - u) % turn
+
+-- the sum modulo 2^32
+abbrev pub addOf : ℕ → ℕ → ℕ
+addOf u v = (u + v) % turn
+
+-- the size of an angle in degrees: nearest of x·2^32/360, modulo 2^32
+abbrev pub sizeOf : Float → ℕ
+sizeOf x = turnsOf x % turn
+
+-- a negative angle is its magnitude's units, negated modulo 2^32
+abbrev pub degreesOf : Float → ℕ
+degreesOf x = cond (lt x (number 0)) (negateOf (sizeOf x)) (sizeOf x)

@@ -1,0 +1,4 @@
+-- The laws that the proofs of `nearest`, and of the crates above it, cite.
+pub mod Nearest
+pub mod Exact
+pub mod Only

@@ -1,0 +1,21 @@
+-- The exact size of a float by its pattern b: digitsOf b / 2 ^ shiftOf b, where that is not above 2 ^ 52 (proofs/Exact.antt).
+use Prim.Native.Nat.{ℕ, zero, suc, _+_, _-_, _/_, _%_, _^_}
+
+-- the eleven bits below the sign
+abbrev pub exponentOf : ℕ → ℕ
+exponentOf b = b % 2 ^ 63 / 2 ^ 52
+
+-- an exponent of 0 has no leading digit, and counts as 1
+abbrev pub digitsIn : ℕ → ℕ → ℕ
+digitsIn zero t = t
+digitsIn (suc j) t = 2 ^ 52 + t
+
+abbrev pub shiftIn : ℕ → ℕ
+shiftIn zero = 1074
+shiftIn (suc j) = 1074 - j
+
+unfoldable pub digitsOf : ℕ → ℕ
+digitsOf b = digitsIn (exponentOf b) (b % 2 ^ 52)
+
+unfoldable pub shiftOf : ℕ → ℕ
+shiftOf b = shiftIn (exponentOf b)

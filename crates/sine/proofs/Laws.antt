@@ -1,0 +1,90 @@
+-- The laws of the sine that its callers cite: the table rises, a reading lies between its neighbours, and no sine passes one.
+use mathlib.Core.Path.{_≡_, refl, subst, subst⁻¹, sym, ap, _∙_}
+use mathlib.Core.Logic.{⊎-elim}
+use mathlib.Core.Bool.{Bool, true, false, cond}
+use Prim.Native.Nat.{ℕ, zero, suc, _+_, _-_, _*_, _/_, _%_, _≤_, _<_}
+use native.Mathlib.Nat.{le-trans, mul-le-mul-left, div-le-of-le-mul, mul-comm, eq-or-lt-of-le}
+use native.Mathlib.Omega.{arith}
+use borrow.Author.Tests.{ne-eqb}
+use lib.Dec.{eqb, ltb}
+use lib.IntN.{pos, negℤ, natAbs}
+use Rattle.fixed.specs.Bounds.{Small}
+use Rattle.angle.specs.Turn.{quarterTurn, addOf}
+use Rattle.sine.specs.Table.{entryOf, scaledSine, added, taken, term, factorial}
+use Rattle.sine.specs.Sine.{segments, segment, entryAt, quadrantOf, foldOf, wayOf, readingOf, sineOf, cosineOf}
+use Rattle.sine.proofs.Climbs as Climbs
+
+-- ---- the table
+
+-- it never falls: one computed test
+pub rising : (k : ℕ) → k < segments → entryAt k ≤ entryAt (k + 1)
+unfolding entryOf scaledSine added taken term factorial
+rising = Climbs.rising entryAt segments tt
+
+last : entryAt segments ≡ quarterTurn
+unfolding entryOf scaledSine added taken term factorial
+last = refl
+
+pub entry-le : (k : ℕ) → k ≤ segments → entryAt k ≤ quarterTurn
+entry-le k h = subst (λ (m : ℕ). entryAt k ≤ m) last (Climbs.at-most-last entryAt segments rising k h)
+
+-- ---- the reading
+
+-- part of the way from a to b is at most the way
+pub part-le : (a b r : ℕ) → r ≤ segment → (b - a) * r / segment ≤ b - a
+part-le a b r h = div-le-of-le-mul segment (subst (λ (m : ℕ). (b - a) * r ≤ m) (mul-comm (b - a) segment) (mul-le-mul-left (b - a) h))
+
+pub reading-end : readingOf quarterTurn ≡ entryAt segments
+unfolding readingOf
+reading-end = refl
+
+pub reading-inside : (g : ℕ) → g < quarterTurn → readingOf g ≡ wayOf (entryAt (g / segment)) (entryAt (g / segment + 1)) (g % segment)
+unfolding readingOf
+reading-inside g h = rw (ne-eqb g quarterTurn (λ e. omega arith))
+
+-- each reading lies between the two neighbouring entries
+pub record Between (low reading high : ℕ) : Type 0 where
+  pub above : low ≤ reading
+  pub below : reading ≤ high
+
+pub reading-between : (g : ℕ) → g < quarterTurn → Between (entryAt (g / segment)) (readingOf g) (entryAt (g / segment + 1))
+unfolding wayOf
+reading-between g h =
+    let k = g / segment in
+    let is = reading-inside g h in
+    record {
+      above = omega arith;
+      below = omega (arith, rising k (omega arith), part-le (entryAt k) (entryAt (k + 1)) (g % segment) (omega arith));
+    }
+
+pub reading-le : (g : ℕ) → g ≤ quarterTurn → readingOf g ≤ quarterTurn
+reading-le g h =
+    ⊎-elim
+    (λ e. subst (λ (m : ℕ). readingOf m ≤ quarterTurn) (sym e) (omega (arith, reading-end, last)))
+    (λ l. le-trans (reading-between g l .below) (entry-le (g / segment + 1) (omega arith)))
+    (eq-or-lt-of-le h)
+
+-- ---- the sine
+
+cond-le : (b : Bool) (x y m : ℕ) → x ≤ m → y ≤ m → cond b x y ≤ m
+cond-le true x y m h k = h
+cond-le false x y m h k = k
+
+pub fold-le : (θ : ℕ) → foldOf θ ≤ quarterTurn
+unfolding foldOf
+fold-le θ = cond-le (eqb (quadrantOf θ % 2) 0) (θ % quarterTurn) (quarterTurn - θ % quarterTurn) quarterTurn (omega arith) (omega arith)
+
+signed : (b : Bool) (q : ℕ) → natAbs (cond b (pos q) (negℤ (pos q))) ≡ q
+signed true q = refl
+signed false zero = refl
+signed false (suc q) = refl
+
+-- no sine passes one
+pub sine-small : (θ : ℕ) → Small (sineOf θ)
+unfolding sineOf
+sine-small θ =
+    record { within = subst⁻¹ (λ (m : ℕ). m ≤ quarterTurn) (signed (ltb (quadrantOf θ) 2) (readingOf (foldOf θ))) (reading-le (foldOf θ) (fold-le θ)) }
+
+pub cosine-small : (θ : ℕ) → Small (cosineOf θ)
+unfolding cosineOf
+cosine-small θ = sine-small (addOf θ quarterTurn)

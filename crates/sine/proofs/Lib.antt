@@ -1,0 +1,6 @@
+-- The laws that the proofs of `sine`, and of the crates above it, cite.
+pub mod Tabulate
+pub mod Climbs
+pub mod Taken
+pub mod Laws
+pub mod Only

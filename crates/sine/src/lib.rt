@@ -1,0 +1,84 @@
+// The sine of an angle, read between the entries of a quarter-wave table. The table is handed out once and lent as `t`: an
+// indexed constant would be copied at every read.
+ghost use mathlib.Core.Path.{_≡_};
+ghost use Prim.Native.Nat.{_≤_, _<_};
+ghost use Rattle.angle.specs.Turn.{quarterTurn};
+ghost use Rattle.sine.specs.Sine.{segments, segment, entryAt, sines, foldOf, wayOf, readingOf, sineOf, cosineOf};
+
+mod entries;
+
+use angle::Angle;
+use entries::TABLE;
+
+const SEGMENTS: u32 = 1024;
+
+const SEGMENT: u32 = 1_048_576;
+
+// The table, to be made once and lent.
+pub fn table() -> [u32; 1025]
+    ensures { λ r. ⌜ r ≡ sines ⌝ }
+{
+    TABLE
+}
+
+// Entry k of the table.
+fn entry(t: &[u32], k: u32) -> u32
+    requires { ⌜ (now t ≡ sines) × (k ≤ segments) ⌝ }
+    ensures { λ r. ⌜ r ≡ entryAt k ⌝ }
+{
+    t[k as usize]
+}
+
+// The value at r units of a segment that goes from low to high.
+fn way(low: u32, high: u32, r: u32) -> u32
+    requires { ⌜ (low ≤ high) × (r < segment) ⌝ }
+    ensures { λ v. ⌜ v ≡ wayOf low high r ⌝ }
+{
+    let rise = (high - low) as u64;
+    low + (rise * (r as u64) / (SEGMENT as u64)) as u32
+}
+
+// The reading at g units of the first quarter turn.
+fn reading(t: &[u32], g: u32) -> u32
+    requires { ⌜ (now t ≡ sines) × (g ≤ quarterTurn) ⌝ }
+    ensures { λ r. ⌜ r ≡ readingOf g ⌝ }
+{
+    if g == Angle::QUARTER.units {
+        return entry(t, SEGMENTS);
+    }
+    let k = g / SEGMENT;
+    way(entry(t, k), entry(t, k + 1), g % SEGMENT)
+}
+
+// The angle folded into the first quarter turn.
+fn fold(theta: Angle) -> u32
+    ensures { λ r. ⌜ r ≡ foldOf (theta .units) ⌝ }
+{
+    let f = theta.units % Angle::QUARTER.units;
+    if theta.units / Angle::QUARTER.units % 2 == 0 {
+        f
+    } else {
+        Angle::QUARTER.units - f
+    }
+}
+
+// The sine, in units of 2^-30.
+pub fn sine(t: &[u32], theta: Angle) -> i64
+    requires { ⌜ now t ≡ sines ⌝ }
+    ensures { λ r. ⌜ r ≡ sineOf (theta .units) ⌝ }
+{
+    let s = reading(t, fold(theta)) as i64;
+    if theta.units < Angle::HALF.units {
+        s
+    } else {
+        -s
+    }
+}
+
+// The cosine, in units of 2^-30.
+pub fn cosine(t: &[u32], theta: Angle) -> i64
+    requires { ⌜ now t ≡ sines ⌝ }
+    ensures { λ r. ⌜ r ≡ cosineOf (theta .units) ⌝ }
+{
+    sine(t, theta.add(Angle::QUARTER))
+}

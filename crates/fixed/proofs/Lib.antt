@@ -1,6 +1,7 @@
 -- The laws that the proofs of `fixed`, and of the crates above it, cite.
 pub mod Floor
 pub mod Mirrored
-pub mod Bounds
+pub mod Within
+pub mod Machine
 pub mod Roots
 pub mod Only

@@ -1,5 +1,5 @@
 -- The definitions that the contracts of `fixed` cite.
 pub mod Floor
 pub mod Scaled
-pub mod Bounds
+pub mod Within
 pub mod Root

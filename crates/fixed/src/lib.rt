@@ -8,7 +8,7 @@ ghost use mir.Syntax.{w64};
 ghost use mir.Val.{SFits};
 ghost use Rattle.fixed.specs.Floor.{floorDiv, mirrorOf};
 ghost use Rattle.fixed.specs.Scaled.{one, _∘_, dotOf};
-ghost use Rattle.fixed.specs.Bounds.{Small, SmallIs, Entries};
+ghost use Rattle.fixed.specs.Within.{Small, SmallIs, Entries};
 ghost use Rattle.fixed.specs.Root.{rootOf};
 
 // −1 − p, which takes numbers below 0 to those that are not, and back.

@@ -8,7 +8,7 @@ use native.Mathlib.Omega.{arith}
 use borrow.Author.Tests.{ne-eqb}
 use lib.Dec.{eqb, ltb}
 use lib.IntN.{pos, negℤ, natAbs}
-use Rattle.fixed.specs.Bounds.{Small}
+use Rattle.fixed.specs.Within.{Small}
 use Rattle.angle.specs.Turn.{quarterTurn, addOf}
 use Rattle.sine.specs.Table.{entryOf, scaledSine, added, taken, term, factorial}
 use Rattle.sine.specs.Sine.{segments, segment, entryAt, quadrantOf, foldOf, wayOf, readingOf, sineOf, cosineOf}

@@ -12,7 +12,7 @@ use entries::TABLE;
 
 const SEGMENTS: u32 = 1024;
 
-const SEGMENT: u32 = 1_048_576;
+const SEGMENT: u32 = Angle::QUARTER.units / SEGMENTS;
 
 // The table, to be made once and lent.
 pub fn table() -> [u32; 1025]

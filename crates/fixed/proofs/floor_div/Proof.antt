@@ -6,7 +6,7 @@ use lib.Signed.{nonNeg}
 use mir.Facts.{toZ-ofZ}
 use borrow.Author.Needs.{needs}
 use Rattle.fixed.specs.Floor.{mirrorOf}
-use Rattle.fixed.proofs.Bounds.{loc, got, told}
+use Rattle.fixed.proofs.Machine.{loc, got, told}
 use Rattle.fixed.proofs.Mirrored.{mirror-nonNeg, test-nonNeg, floor-mirror}
 use Rattle.fixed.proofs.floor_div.Statement.{statement}
 use Rattle.fixed.proofs.floor_div.Tie as tie
@@ -18,7 +18,7 @@ quotient-requires : tie.Need-quotient-requires
 quotient-requires c κs =
     let s = c .before .before in
     let is : loc (c .mirror .result) ≡ mirrorOf (s .args .p) = cc (got (c .mirror .result) (c .mirror .ok), toZ-ofZ (s .fits .p)) in
-    (rw is (mirror-nonNeg (s .args .p) (told (pos 0) (s .fits .p) (c .before .if1 .taken))), s .pre)
+    (rw is (mirror-nonNeg (s .args .p) (told (pos 0) (s .fits .p) (c .before .if1 .taken))), search needs)
 
 mirror-requires-2 : tie.Need-mirror-requires-2
 mirror-requires-2 c κs = search needs

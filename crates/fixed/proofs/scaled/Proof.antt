@@ -2,7 +2,7 @@
 use mir.Facts.{toZ-ofZ}
 use borrow.Author.Needs.{needs}
 use Rattle.fixed.specs.Scaled.{_∘_}
-use Rattle.fixed.proofs.Bounds.{got}
+use Rattle.fixed.proofs.Machine.{got}
 use Rattle.fixed.proofs.scaled.Statement.{statement}
 use Rattle.fixed.proofs.scaled.Tie as tie
 

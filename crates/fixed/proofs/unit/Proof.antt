@@ -1,11 +1,12 @@
 -- `fixed::unit` meets its contract: the product of two numbers of at most one, scaled, is at most one.
 use Rattle.fixed.specs.Scaled.{one}
-use Rattle.fixed.proofs.Bounds.{fit, held, operand, product, scaled-is, to-small}
+use borrow.Author.Needs.{needs}
+use Rattle.fixed.proofs.Machine.{bounded, held, operand, scaled-is, to-small}
 use Rattle.fixed.proofs.unit.Statement.{statement}
 use Rattle.fixed.proofs.unit.Tie as tie
 
 scaled-requires : tie.Need-scaled-requires
-scaled-requires c κs = fit (product (operand (c .pre .0) tt) (operand (c .pre .1) tt)) tt
+scaled-requires c κs = search (needs, bounded)
 
 returns : tie.Need-returns
 returns c =

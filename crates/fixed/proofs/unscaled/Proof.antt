@@ -5,7 +5,7 @@ use lib.Signed.{mag-shr, shrZ}
 use mir.ValLaws.{sfits-le}
 use mir.Facts.{toZ-ofZ}
 use Rattle.fixed.specs.Scaled.{one}
-use Rattle.fixed.proofs.Bounds.{shift-floors}
+use Rattle.fixed.proofs.Floor.{shift-floors}
 use Rattle.fixed.proofs.unscaled.Statement.{statement}
 use Rattle.fixed.proofs.unscaled.Tie as tie
 

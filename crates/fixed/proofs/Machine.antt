@@ -1,5 +1,4 @@
--- What the machine holds. A signed local holds bits, so an operand v reads as  toZ w64 (ofZ w64 v),  `loc v`. `Is x v n`: the term x of
--- a goal is the number v, which is within n. A proof builds one `Is` along the code's own steps: `fit` of it answers a need, `.is` the return.
+-- What the machine holds of a signed number: each operation's law takes `Is` of the operands to `Is` of the result.
 use mathlib.Core.Path.{_≡_, refl, sym, ap, _∙_, subst}
 use mathlib.Core.Bool.{Bool}
 use Prim.Native.Nat.{ℕ, _+_, _*_, _≤_, _<_, _^_}
@@ -14,9 +13,12 @@ use Rattle.fixed.specs.Scaled.{one, _∘_}
 use Rattle.fixed.specs.Within.{Within, SmallIs}
 use Rattle.fixed.proofs.Within.{neg-within, add-within, sub-within, mul-within, scaled-within, fits}
 
+-- A signed local holds bits, so an operand v reads as  toZ w64 (ofZ w64 v)
 abbrev pub loc : ℤ → ℤ
 loc v = toZ w64 (ofZ w64 v)
 
+-- The term x of a goal is the number v, which is within n. A proof builds one `Is` along the code's own steps: `fit` of it answers a
+-- need, and `.is` the return.
 pub record Is (x v : ℤ) (n : ℕ) : Type 0 where
   pub is : x ≡ v
   pub bound : Within v n

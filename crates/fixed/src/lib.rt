@@ -1,12 +1,12 @@
 // Signed fixed-point arithmetic, exact toward minus infinity, and the whole square root.
 ghost use mathlib.Core.Path.{_≡_};
-ghost use Prim.Native.Nat.{_*_, _<_};
+ghost use Prim.Native.Nat.{_*_};
 ghost use lib.Dec.{T};
 ghost use lib.IntN.{_*ℤ_};
 ghost use lib.Signed.{nonNeg};
 ghost use mir.Syntax.{w64};
 ghost use mir.Val.{SFits};
-ghost use Rattle.fixed.specs.Floor.{floorDiv, mirrorOf};
+ghost use Rattle.fixed.specs.Floor.{floorDiv, Divisor, mirrorOf};
 ghost use Rattle.fixed.specs.Scaled.{one, _∘_, dotOf};
 ghost use Rattle.fixed.specs.Within.{Small, SmallIs, Entries};
 ghost use Rattle.fixed.specs.Root.{rootOf};
@@ -20,7 +20,7 @@ fn mirror(p: i64) -> i64
 
 // The floor of p / d for a p that is not below 0.
 fn quotient(p: i64, d: u64) -> i64
-    requires { ⌜ (T (nonNeg p)) × (0 < d) ⌝ }
+    requires { ⌜ (T (nonNeg p)) × (Divisor d) ⌝ }
     ensures { λ r. ⌜ r ≡ floorDiv p d ⌝ }
 {
     (p as u64 / d) as i64
@@ -28,7 +28,7 @@ fn quotient(p: i64, d: u64) -> i64
 
 // The floor of p / d. Below 0 it is that of the mirror, mirrored.
 pub fn floor_div(p: i64, d: u64) -> i64
-    requires { ⌜ 0 < d ⌝ }
+    requires { ⌜ Divisor d ⌝ }
     ensures { λ r. ⌜ r ≡ floorDiv p d ⌝ }
 {
     if p < 0 {

@@ -1,8 +1,8 @@
 // The nearest whole number to a float times p / q. The exact size of a float is read off its bits: digits over a power of two.
 // The doubled product is floored, and then halved upward.
 ghost use mathlib.Core.Path.{_≡_};
-ghost use Prim.Native.Nat.{_+_, _-_, _/_, _^_, _≤_, _<_};
-ghost use Rattle.nearest.specs.Nearest.{nearestOf, metresOf, millisecondsOf, eccentricityOf, turnsOf, UpTo};
+ghost use Prim.Native.Nat.{_+_, _/_, _^_};
+ghost use Rattle.nearest.specs.Nearest.{nearestOf, metresOf, millisecondsOf, eccentricityOf, turnsOf, UpTo, ByShift};
 ghost use Rattle.nearest.specs.Pattern.{digitsOf, shiftOf};
 
 // n / 2^k, for a k that may pass the width.
@@ -56,7 +56,7 @@ fn thousandths(x: f64) -> u32
 
 // The nearest to x·2^j / q. The digits are shifted before they are divided, so that no product is wide.
 fn by_power(x: f64, j: u64, q: u64) -> u64
-    requires { ⌜ (30 ≤ j) × (j < 52) × (0 < q) × (UpTo (51 - j) x) ⌝ }
+    requires { ⌜ ByShift j q x ⌝ }
     ensures { λ r. ⌜ r ≡ nearestOf (2 ^ j) q x ⌝ }
 {
     let bits = f64::to_bits(x);

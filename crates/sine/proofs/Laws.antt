@@ -1,5 +1,5 @@
 -- The laws of the sine that its callers cite: the table rises, a reading lies between its neighbours, and no sine passes one.
-use mathlib.Core.Path.{_≡_, refl, subst, subst⁻¹, sym, ap, _∙_}
+use mathlib.Core.Path.{_≡_, refl, subst, subst⁻¹, sym}
 use mathlib.Core.Logic.{⊎-elim}
 use mathlib.Core.Bool.{Bool, true, false, cond}
 use Prim.Native.Nat.{ℕ, zero, suc, _+_, _-_, _*_, _/_, _%_, _≤_, _<_}

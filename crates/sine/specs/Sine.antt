@@ -1,7 +1,7 @@
 -- The sine and the cosine of an angle in units, as read off the table (document 01, "Sine").
 use mathlib.Core.Bool.{cond}
 use mathlib.Core.List.{List, [], _∷_}
-use Prim.Native.Nat.{ℕ, zero, suc, _+_, _-_, _*_, _/_, _%_}
+use Prim.Native.Nat.{ℕ, zero, suc, _+_, _-_, _*_, _/_, _%_, _≤_, _<_}
 use lib.Dec.{eqb, ltb}
 use lib.IntN.{ℤ, pos, negℤ}
 use Rattle.angle.specs.Turn.{quarterTurn, addOf}
@@ -17,6 +17,10 @@ segment = quarterTurn / segments
 
 abbrev pub entryAt : ℕ → ℕ
 entryAt k = entryOf segments k
+
+-- the table has an entry k
+abbrev pub IsEntry : ℕ → Type 0
+IsEntry k = k ≤ segments
 
 -- n values of f, from i on
 abbrev pub valuesFrom : (ℕ → ℕ) → ℕ → ℕ → List ℕ
@@ -40,6 +44,14 @@ foldOf θ =
 -- r units into a segment from a to b: a plus floor((b − a)·r/2^20)
 unfoldable pub wayOf : ℕ → ℕ → ℕ → ℕ
 wayOf a b r = a + (b - a) * r / segment
+
+-- the segment does not fall, and r lies in it
+abbrev pub OnTheWay : ℕ → ℕ → ℕ → Type 0
+OnTheWay a b r = (a ≤ b) × (r < segment)
+
+-- g lies in the first quarter turn, its end included
+abbrev pub InQuarter : ℕ → Type 0
+InQuarter g = g ≤ quarterTurn
 
 -- k = floor(g/2^20), r the rest: the way from entry k to entry k+1; at g = 2^30 entry 1024
 unfoldable pub readingOf : ℕ → ℕ

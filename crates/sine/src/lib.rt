@@ -1,9 +1,7 @@
 // The sine of an angle, read between the entries of a quarter-wave table. The table is handed out once and lent as `t`: an
 // indexed constant would be copied at every read.
 ghost use mathlib.Core.Path.{_≡_};
-ghost use Prim.Native.Nat.{_≤_, _<_};
-ghost use Rattle.angle.specs.Turn.{quarterTurn};
-ghost use Rattle.sine.specs.Sine.{segments, segment, entryAt, sines, foldOf, wayOf, readingOf, sineOf, cosineOf};
+ghost use Rattle.sine.specs.Sine.{IsEntry, entryAt, sines, foldOf, OnTheWay, wayOf, InQuarter, readingOf, sineOf, cosineOf};
 
 mod entries;
 
@@ -23,7 +21,7 @@ pub fn table() -> [u32; 1025]
 
 // Entry k of the table.
 fn entry(t: &[u32], k: u32) -> u32
-    requires { ⌜ (now t ≡ sines) × (k ≤ segments) ⌝ }
+    requires { ⌜ (now t ≡ sines) × (IsEntry k) ⌝ }
     ensures { λ r. ⌜ r ≡ entryAt k ⌝ }
 {
     t[k as usize]
@@ -31,7 +29,7 @@ fn entry(t: &[u32], k: u32) -> u32
 
 // The value at r units of a segment that goes from low to high.
 fn way(low: u32, high: u32, r: u32) -> u32
-    requires { ⌜ (low ≤ high) × (r < segment) ⌝ }
+    requires { ⌜ OnTheWay low high r ⌝ }
     ensures { λ v. ⌜ v ≡ wayOf low high r ⌝ }
 {
     let rise = (high - low) as u64;
@@ -40,7 +38,7 @@ fn way(low: u32, high: u32, r: u32) -> u32
 
 // The reading at g units of the first quarter turn.
 fn reading(t: &[u32], g: u32) -> u32
-    requires { ⌜ (now t ≡ sines) × (g ≤ quarterTurn) ⌝ }
+    requires { ⌜ (now t ≡ sines) × (InQuarter g) ⌝ }
     ensures { λ r. ⌜ r ≡ readingOf g ⌝ }
 {
     if g == Angle::QUARTER.units {

@@ -1,12 +1,12 @@
 -- The laws of little-endian numbers, over the width n: by induction on the bytes, and through `sets-eq` where a buffer is lent.
 use Prim.Native.Nat.{ℕ, zero, suc, _+_, _-_, _*_, _/_, _%_, _^_, _≤_, _<_}
-use mathlib.Core.Path.{_≡_, refl, sym, ap, _∙_}
+use mathlib.Core.Path.{_≡_, refl, ap, _∙_}
 use mathlib.Core.List.{List, [], _∷_, _++_, append-assoc}
 use native.Mathlib.Omega.{arith}
-use native.Mathlib.Nat.{pow-succ', mul-assoc, le-trans, le-of-eq}
+use native.Mathlib.Nat.{pow-succ', mul-assoc}
 use native.Mathlib.Numerals.{add-one, sub-one}
-use lib.ListN.{length, getD, take, drop, set, length-take, length-drop, length-append, take-append-drop}
-use lib.Seq.{sets, sets-eq, length-sets, drop-cons, drop-drop, take-add, length-take-le, take-at, drop-at, getD-take, getD-drop, ext-getD}
+use lib.ListN.{length, getD, take, drop, set, length-drop, take-append-drop}
+use lib.Seq.{sets-eq, length-sets, drop-cons, drop-drop, take-add, length-take-le, take-at, drop-at, getD-take, getD-drop}
 use Rattle.words.specs.Little.{bytesOf, numberOf, readOf, putOf, Holds, Bytes}
 
 -- ---- bytes and numbers

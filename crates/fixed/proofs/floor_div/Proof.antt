@@ -1,8 +1,6 @@
 -- `fixed::floor_div` meets its contract: below 0 the floor is that of the mirror, mirrored.
-use mathlib.Core.Path.{_≡_, sym, ap, subst, _∙_}
-use lib.Dec.{T}
-use lib.IntN.{ℤ, pos}
-use lib.Signed.{nonNeg}
+use mathlib.Core.Path.{_≡_}
+use lib.IntN.{pos}
 use mir.Facts.{toZ-ofZ}
 use borrow.Author.Needs.{needs}
 use Rattle.fixed.specs.Floor.{mirrorOf}

@@ -1,5 +1,5 @@
 -- `nearest::thousandths` meets its contract: the float is its digits over a power of two, and the answer fits by its bound.
-use mathlib.Core.Path.{sym, subst, ap, _∙_}
+use mathlib.Core.Path.{sym, subst}
 use native.Mathlib.Omega.{arith}
 use lib.Dec.{T, lit<, lit≤}
 use lib.Ieee.{Float, binary64, fits, toBits}

@@ -1,4 +1,4 @@
--- The exact size of a float by its pattern b: digitsOf b / 2 ^ shiftOf b, where that is not above 2 ^ 52 (proofs/Exact.antt).
+-- The exact size of a float of at most 2 ^ 21 by its pattern b: digitsOf b / 2 ^ shiftOf b (proofs/Exact.antt).
 use Prim.Native.Nat.{ℕ, zero, suc, _+_, _-_, _/_, _%_, _^_}
 
 -- the eleven bits below the sign

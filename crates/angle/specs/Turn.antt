@@ -2,13 +2,10 @@
 use mathlib.Core.Bool.{cond}
 use Prim.Native.Nat.{ℕ, _+_, _-_, _%_, _^_}
 use lib.Ieee.{Float, lt}
-use Rattle.nearest.specs.Nearest.{turnsOf, number}
+use Rattle.nearest.specs.Nearest.{unitsOf, number}
 
 abbrev pub quarterTurn : ℕ
 quarterTurn = 2 ^ 30
-
-abbrev pub halfTurn : ℕ
-halfTurn = 2 ^ 31
 
 abbrev pub turn : ℕ
 turn = 2 ^ 32
@@ -21,10 +18,10 @@ negateOf u = (turn - u) % turn
 abbrev pub addOf : ℕ → ℕ → ℕ
 addOf u v = (u + v) % turn
 
--- the size of an angle in degrees: nearest of x·2^32/360, modulo 2^32
-abbrev pub sizeOf : Float → ℕ
-sizeOf x = turnsOf x % turn
+-- the units of the magnitude of x degrees: nearest of |x|·2^32/360, modulo 2^32
+abbrev pub magnitudeOf : Float → ℕ
+magnitudeOf x = unitsOf x % turn
 
 -- a negative angle is its magnitude's units, negated modulo 2^32
 abbrev pub degreesOf : Float → ℕ
-degreesOf x = cond (lt x (number 0)) (negateOf (sizeOf x)) (sizeOf x)
+degreesOf x = cond (lt x (number 0)) (negateOf (magnitudeOf x)) (magnitudeOf x)

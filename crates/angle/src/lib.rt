@@ -39,9 +39,13 @@ impl Angle {
         requires { ⌜ UpTo 9 x ⌝ }
         ensures { λ r. ⌜ r .units ≡ degreesOf x ⌝ }
     {
-        let size = Angle {
-            units: (nearest::turns(x) % 4_294_967_296) as u32,
+        let magnitude = Angle {
+            units: (nearest::angle_units(x) % 4_294_967_296) as u32,
         };
-        if x < 0.0 { size.negate() } else { size }
+        if x < 0.0 {
+            magnitude.negate()
+        } else {
+            magnitude
+        }
     }
 }

@@ -11,7 +11,7 @@ floorDiv (negsuc n) d = negsuc (n / d)
 abbrev pub Divisor : ℕ → Type 0
 Divisor d = 0 < d
 
--- −1 − z
+-- −1 − z, for the contract of a private function; no rule of document 01
 abbrev pub mirrorOf : ℤ → ℤ
 mirrorOf (pos n) = negsuc n
 mirrorOf (negsuc n) = pos n

@@ -13,10 +13,10 @@ pub record Within (z : ℤ) (n : ℕ) : Type 0 where
 abbrev pub Small : ℤ → Type 0
 Small z = Within z one
 
--- r is v, and at most one away from 0
-pub record SmallIs (r v : ℤ) : Type 0 where
+-- r is v, and at most n away from 0
+pub record Is (r v : ℤ) (n : ℕ) : Type 0 where
   pub is : r ≡ v
-  pub small : Small r
+  pub bound : Within r n
 
 -- each of the three is at most n away from 0
 pub record Entries (v : List ℤ) (n : ℕ) : Type 0 where

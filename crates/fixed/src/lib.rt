@@ -8,7 +8,7 @@ ghost use mir.Syntax.{w64};
 ghost use mir.Val.{SFits};
 ghost use Rattle.fixed.specs.Floor.{floorDiv, Divisor, mirrorOf};
 ghost use Rattle.fixed.specs.Scaled.{one, _∘_, dotOf};
-ghost use Rattle.fixed.specs.Within.{Small, SmallIs, Entries};
+ghost use Rattle.fixed.specs.Within.{Small, Is, Entries};
 ghost use Rattle.fixed.specs.Root.{rootOf};
 
 // −1 − p, which takes numbers below 0 to those that are not, and back.
@@ -56,7 +56,7 @@ pub fn scaled(a: i64, b: i64) -> i64
 // a∘b of two numbers of at most one, which is at most one.
 pub fn unit(a: i64, b: i64) -> i64
     requires { ⌜ (Small a) × (Small b) ⌝ }
-    ensures { λ r. ⌜ SmallIs r (a ∘ b) ⌝ }
+    ensures { λ r. ⌜ Is r (a ∘ b) one ⌝ }
 {
     scaled(a, b)
 }

@@ -6,8 +6,8 @@ use Rattle.nearest.proofs.milliseconds.Kinds as milliseconds
 use Rattle.nearest.proofs.milliseconds.Reads as milliseconds-reads
 use Rattle.nearest.proofs.eccentricity.Kinds as eccentricity
 use Rattle.nearest.proofs.eccentricity.Reads as eccentricity-reads
-use Rattle.nearest.proofs.turns.Kinds as turns
-use Rattle.nearest.proofs.turns.Reads as turns-reads
+use Rattle.nearest.proofs.angle_units.Kinds as angle-units
+use Rattle.nearest.proofs.angle_units.Reads as angle-units-reads
 
 pub metres-only : OneResult 0 metres.ps metres.r metres-reads.Post
 metres-only κs a x y s t p q = by-value _ p q
@@ -18,5 +18,5 @@ milliseconds-only κs a x y s t p q = by-value _ p q
 pub eccentricity-only : OneResult 0 eccentricity.ps eccentricity.r eccentricity-reads.Post
 eccentricity-only κs a x y s t p q = by-value _ p q
 
-pub turns-only : OneResult 0 turns.ps turns.r turns-reads.Post
-turns-only κs a x y s t p q = by-value _ p q
+pub angle-units-only : OneResult 0 angle-units.ps angle-units.r angle-units-reads.Post
+angle-units-only κs a x y s t p q = by-value _ p q

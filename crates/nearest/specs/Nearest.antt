@@ -1,5 +1,5 @@
 -- From floats to whole numbers (document 01, "From floats to whole numbers").
-use Prim.Native.Nat.{ℕ, _+_, _-_, _*_, _/_, _^_, _≤_, _<_}
+use Prim.Native.Nat.{ℕ, _+_, _*_, _/_, _^_, _≤_}
 use lib.Dec.{T}
 use lib.Ieee.{Float, binary64, round}
 use mathlib.Core.Bool.{false}
@@ -26,18 +26,14 @@ millisecondsOf x = nearestOf 1000 1 x
 abbrev pub eccentricityOf : Float → ℕ
 eccentricityOf x = nearestOf (2 ^ 30) 1 x
 
--- angles, in degrees: nearest of x·2^32/360, not yet modulo 2^32
-abbrev pub turnsOf : Float → ℕ
-turnsOf x = nearestOf (2 ^ 32) 360 x
+-- angles, in degrees: nearest of |x|·2^32/360, not yet modulo 2^32
+abbrev pub unitsOf : Float → ℕ
+unitsOf x = nearestOf (2 ^ 32) 360 x
 
 -- finite, and at most 2 ^ w in size
 pub record UpTo (w : ℕ) (x : Float) : Type 0 where
   pub finite-is : T (finite x)
   pub size-is : num x ≤ 2 ^ w * den x
-
--- what makes x·2^j / q one shift and one division: at least 1 + j of the digits of x are behind its point
-abbrev pub ByShift : ℕ → ℕ → Float → Type 0
-ByShift j q x = (30 ≤ j) × (j < 52) × (0 < q) × (UpTo (51 - j) x)
 
 -- the float nearest to a / b, and a whole number as a float: for the constants of definitions
 unfoldable pub decimal : ℕ → ℕ → Float

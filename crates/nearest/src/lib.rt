@@ -2,8 +2,8 @@
 // The doubled product is floored, and then halved upward.
 ghost use mathlib.Core.Path.{_≡_};
 ghost use Prim.Native.Nat.{_+_, _/_, _^_};
-ghost use Rattle.nearest.specs.Nearest.{nearestOf, metresOf, millisecondsOf, eccentricityOf, turnsOf, UpTo, ByShift};
-ghost use Rattle.nearest.specs.Pattern.{digitsOf, shiftOf};
+ghost use Rattle.nearest.specs.Nearest.{nearestOf, metresOf, millisecondsOf, eccentricityOf, unitsOf, UpTo};
+ghost use Rattle.nearest.specs.Pattern.{digitsOf, shiftOf, ByShift};
 
 // n / 2^k, for a k that may pass the width.
 fn shifted(n: u64, k: u64) -> u64
@@ -87,10 +87,10 @@ pub fn eccentricity(x: f64) -> u32
     by_power(x, 30, 1) as u32
 }
 
-// The size of an angle in degrees, in units of 2^-32 turns; a whole turn is not taken off.
-pub fn turns(x: f64) -> u64
+// The magnitude of an angle in degrees, in units of 2^-32 turns; a whole turn is not taken off.
+pub fn angle_units(x: f64) -> u64
     requires { ⌜ UpTo 9 x ⌝ }
-    ensures { λ r. ⌜ r ≡ turnsOf x ⌝ }
+    ensures { λ r. ⌜ r ≡ unitsOf x ⌝ }
 {
     by_power(x, 32, 360)
 }

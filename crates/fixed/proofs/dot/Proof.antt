@@ -6,8 +6,8 @@ use mir.Syntax.{w64}
 use mir.Val.{toZ, ofZ}
 use borrow.Author.Needs.{needs}
 use Rattle.fixed.specs.Scaled.{one, at, _∘_, dotOf}
-use Rattle.fixed.specs.Within.{Within}
-use Rattle.fixed.proofs.Machine.{Is, bounded, fit, held, operand, sum, product, scaled-is}
+use Rattle.fixed.specs.Within.{Within, Is}
+use Rattle.fixed.proofs.Machine.{bounded, fit, held, operand, sum, product, scaled-is}
 use Rattle.fixed.proofs.dot.Statement.{statement}
 use Rattle.fixed.proofs.dot.Tie as tie
 

@@ -1,9 +1,9 @@
 -- `fixed::floor_div` meets its contract: below 0 the floor is that of the mirror, mirrored.
-use mathlib.Core.Path.{_≡_}
-use lib.IntN.{pos}
+use mathlib.Core.Path.{_≡_, ap, _∙_}
+use lib.IntN.{ℤ, pos}
 use mir.Facts.{toZ-ofZ}
 use borrow.Author.Needs.{needs}
-use Rattle.fixed.specs.Floor.{mirrorOf}
+use Rattle.fixed.specs.Floor.{floorDiv, mirrorOf}
 use Rattle.fixed.proofs.Machine.{loc, got, told}
 use Rattle.fixed.proofs.Mirrored.{mirror-nonNeg, test-nonNeg, floor-mirror}
 use Rattle.fixed.proofs.floor_div.Statement.{statement}
@@ -29,16 +29,20 @@ quotient-requires-2 c κs =
 returns : tie.Need-returns
 returns c =
     let s = c .before .before .before .before in
-    cc (
-      toZ-ofZ (s .fits .p),
-      got (c .before .before .mirror .result) (c .before .before .mirror .ok),
-      got (c .before .quotient .result) (c .before .quotient .ok),
-      got (c .mirror2 .result) (c .mirror2 .ok),
-      floor-mirror (s .args .p) (s .args .d),
-    )
+    let below = c .before .before .mirror in
+    let part = c .before .quotient in
+    got (c .mirror2 .result) (c .mirror2 .ok)
+    ∙ c .mirror2 .ensures
+    ∙ ap mirrorOf
+    (got (part .result) (part .ok)
+    ∙ part .ensures
+    ∙ ap (λ (z : ℤ). floorDiv z (s .args .d)) (got (below .result) (below .ok) ∙ below .ensures ∙ ap mirrorOf (toZ-ofZ (s .fits .p))))
+    ∙ floor-mirror (s .args .p) (s .args .d)
 
 returns-2 : tie.Need-returns-2
-returns-2 c = cc (toZ-ofZ (c .before .before .fits .p), got (c .quotient2 .result) (c .quotient2 .ok))
+returns-2 c =
+    let s = c .before .before in
+    got (c .quotient2 .result) (c .quotient2 .ok) ∙ c .quotient2 .ensures ∙ ap (λ (z : ℤ). floorDiv z (s .args .d)) (toZ-ofZ (s .fits .p))
 
 pub floor-div-spec : {M : Type 1} → statement M
 floor-div-spec =

@@ -45,7 +45,8 @@ halved-requires c κs = search needs
 returns : tie.Need-returns
 returns c =
     let s = c .before .before .before .before in
-    cc (by-power (51 - s .args .j) (x s) (omega arith) (held s) (s .pre .3) (s .args .j) (s .args .q) (s .pre .2) (omega arith))
+    rw (c .halved .ensures, c .before .shifted .ensures, c .before .before .before .digits .ensures, c .before .before .shift .ensures)
+    (by-power (51 - s .args .j) (x s) (omega arith) (held s) (s .pre .3) (s .args .j) (s .args .q) (s .pre .2) (omega arith))
 
 pub by-power-spec : {M : Type 1} → statement M
 by-power-spec =

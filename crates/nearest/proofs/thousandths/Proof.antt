@@ -37,7 +37,8 @@ halved-requires c κs = search needs
 returns : tie.Need-returns
 returns c =
     let s = c .before .before .before .before in
-    cc (by-thousand 21 (x s) (lit≤ tt) (held s) (s .pre))
+    rw (c .halved .ensures, c .before .shifted .ensures, c .before .before .before .digits .ensures, c .before .before .shift .ensures)
+    (by-thousand 21 (x s) (lit≤ tt) (held s) (s .pre))
 
 cast-result : tie.Need-cast-result
 cast-result c =

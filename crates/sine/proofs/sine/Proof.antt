@@ -8,7 +8,8 @@ use mir.Val.{toZ}
 use borrow.Author.Needs.{needs}
 use borrow.Author.Tests.{lt-ltb, le-ltb}
 use Rattle.fixed.specs.Scaled.{one}
-use Rattle.fixed.proofs.Machine.{Is, cast, fit, held, negation}
+use Rattle.fixed.specs.Within.{Is}
+use Rattle.fixed.proofs.Machine.{cast, fit, held, negation}
 use Rattle.sine.specs.Sine.{quadrantOf, readingOf, foldOf, sineOf}
 use Rattle.sine.proofs.Laws.{fold-le, reading-le}
 use Rattle.sine.proofs.sine.Statement.{statement}

@@ -33,6 +33,9 @@ pub floor-mirror : (z : ℤ) (d : ℕ) → mirrorOf (floorDiv (mirrorOf z) d) �
 floor-mirror (pos n) d = refl
 floor-mirror (negsuc n) d = refl
 
+pub minus-fits : (z : ℤ) → SFits w64 z → SFits w64 (negsuc 0 -ℤ z)
+minus-fits z f = rw (mirror-is z) (mirror-fits z f)
+
 -- of a number that is not below 0
 pub floor-pos : (z : ℤ) (d : ℕ) → T (nonNeg z) → pos (natAbs z / d) ≡ floorDiv z d
 floor-pos (pos n) d t = refl

@@ -127,12 +127,10 @@ module _ (w : ℕ) (x : Float) (W : w ≤ 21) (F : T (fits binary64 x)) (S : UpT
   pub dropped : 52 ≤ w + z
   dropped = sized w x W F S .1
 
-  pub by-thousand : (a * 2000 / 2 ^ z + 1) / 2 ≡ nearestOf 1000 1 x
+  pub by-whole : (p : ℕ) → (a * (2 * p) / 2 ^ z + 1) / 2 ≡ nearestOf p 1 x
   unfolding nearestOf
-  by-thousand = sym (nearest-is 1000 1 (num x) (den x) a (2 ^ z) (lit< tt) (den-pos x) (pow-pos z) (sized w x W F S .0) ∙ rw (div-one, doubled))
-    where
-      doubled : 2 * (a * 1000) ≡ a * 2000
-      doubled = omega arith
+  by-whole p =
+      sym (nearest-is p 1 (num x) (den x) a (2 ^ z) (lit< tt) (den-pos x) (pow-pos z) (sized w x W F S .0) ∙ rw (div-one, mul-left-comm 2 a p))
 
   pub by-power : (j q : ℕ) → 0 < q → w + j < 52 → (a / 2 ^ (z - (1 + j)) / q + 1) / 2 ≡ nearestOf (2 ^ j) q x
   unfolding nearestOf

@@ -9,6 +9,10 @@ use lib.Ieee.Nearest.{div-same, div-mono}
 use lib.Ieee.Positive.{num, den, den-pos}
 use Rattle.nearest.specs.Nearest.{nearest, nearestOf, UpTo}
 
+-- an exact half goes up
+pub half-goes-up : (n : ℕ) → nearest (2 * n + 1) 2 ≡ n + 1
+half-goes-up n = omega arith
+
 pub nearest-halved : (n d : ℕ) → 0 < d → nearest n d ≡ (2 * n / d + 1) / 2
 nearest-halved n d h = rw (mul-comm 2 d, ← div-div-eq-div-mul (2 * n + d) d 2, add-div-right (2 * n) h)
 

@@ -5,7 +5,7 @@ use lib.Dec.{T, lit<, lit≤}
 use lib.Ieee.{Float, binary64, fits, toBits}
 use borrow.Author.Needs.{needs}
 use Rattle.nearest.proofs.Nearest.{nearestOf-le}
-use Rattle.nearest.proofs.Exact.{no-nan, digits-lt, by-thousand}
+use Rattle.nearest.proofs.Exact.{no-nan, digits-lt, by-whole}
 use Rattle.nearest.proofs.thousandths.Statement.{statement}
 use Rattle.nearest.proofs.thousandths.Tie as tie
 
@@ -38,7 +38,7 @@ returns : tie.Need-returns
 returns c =
     let s = c .before .before .before .before in
     rw (c .halved .ensures, c .before .shifted .ensures, c .before .before .before .digits .ensures, c .before .before .shift .ensures)
-    (by-thousand 21 (x s) (lit≤ tt) (held s) (s .pre))
+    (by-whole 21 (x s) (lit≤ tt) (held s) (s .pre) 1000)
 
 cast-result : tie.Need-cast-result
 cast-result c =

@@ -1,7 +1,8 @@
 -- `sine::fold` meets its contract, by the test on the quadrant.
+use Prim.Native.Nat.{_%_}
 use borrow.Author.Needs.{needs}
 use borrow.Author.Tests.{eq-eqb, ne-eqb}
-use Rattle.sine.specs.Sine.{foldOf}
+use Rattle.sine.specs.Sine.{quadrantOf, foldOf}
 use Rattle.sine.proofs.fold.Statement.{statement}
 use Rattle.sine.proofs.fold.Tie as tie
 
@@ -16,7 +17,7 @@ sub-result c = search needs
 
 returns : tie.Need-returns
 unfolding foldOf
-returns c = simp (eq-eqb _ _ (c .if1 .taken))
+returns c = rw (eq-eqb (quadrantOf (c .before .before .before .before .before .args .theta .units) % 2) 0 (c .if1 .taken))
 
 returns-2 : tie.Need-returns-2
 unfolding foldOf

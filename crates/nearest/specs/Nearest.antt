@@ -26,6 +26,10 @@ millisecondsOf x = nearestOf 1000 1 x
 abbrev pub eccentricityOf : Float → ℕ
 eccentricityOf x = nearestOf (2 ^ 30) 1 x
 
+-- that of 0.95, the largest e accepted (document 01, field 2; "On both sides" has the number)
+abbrev pub mostEccentric : ℕ
+mostEccentric = 1020054733
+
 -- angles, in degrees: nearest of |x|·2^32/360, not yet modulo 2^32
 abbrev pub unitsOf : Float → ℕ
 unitsOf x = nearestOf (2 ^ 32) 360 x

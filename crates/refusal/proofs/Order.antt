@@ -1,0 +1,115 @@
+-- The first that applies: `first` gives a refusal exactly if the row at its place does and each row before it passes; by induction on the table.
+use Prim.Native.Nat.{ℕ, zero, suc, _+_, _<_}
+use mathlib.Core.Path.{_≡_, refl, sym, ap, _∙_}
+use mathlib.Core.Logic.{_↔_}
+use mathlib.Core.Bool.{Bool, true, false}
+use mathlib.Core.List.{List, [], _∷_, _++_}
+use native.Mathlib.Omega.{arith}
+use Rattle.refusal.specs.Refusal.{placeOf}
+use Rattle.refusal.specs.Rows.{when, _then_, first, rowAt, Gives, Passes, Placed}
+use Rattle.refusal.specs.Rows.Placed.{done, _also_}
+use Rattle.refusal.specs.declared.Refusal.{Refusal}
+use Rattle.refusal.specs.declared.Verdict.{Verdict}
+use Rattle.refusal.specs.declared.Verdict.the-variants.{Passed, Refused}
+
+-- no row both passes and refuses
+pub not-both : {v : Verdict} {r : Refusal} → v ≡ Passed → v ≡ Refused r → ⊥
+not-both p h = let z : _≡_ {A = ℕ} 0 1 = cc in absurd (omega arith)
+
+-- ---- one row after another
+
+pub then-assoc : (a b c : Verdict) → (a then b) then c ≡ a then b then c
+unfolding _then_
+then-assoc Passed b c = refl
+then-assoc (Refused r) b c = refl
+
+pub then-passed : (a : Verdict) → a then Passed ≡ a
+unfolding _then_
+then-passed Passed = refl
+then-passed (Refused r) = refl
+
+then-both : (a b : Verdict) → a then b ≡ Passed → (a ≡ Passed) × (b ≡ Passed)
+unfolding _then_
+then-both Passed b h = (refl, h)
+then-both (Refused r) b h = absurd (not-both h refl)
+
+-- a table in two parts: where the first part refuses, so does the table; where it passes, the second part decides
+pub first-append : (xs ys : List Verdict) → first (xs ++ ys) ≡ first xs then first ys
+unfolding first _then_
+first-append [] ys = refl
+first-append (x ∷ xs) ys = ap (λ (v : Verdict). x then v) (first-append xs ys) ∙ sym (then-assoc x (first xs) (first ys))
+
+pub first-both : (xs ys : List Verdict) → first (xs ++ ys) ≡ Passed → (first xs ≡ Passed) × (first ys ≡ Passed)
+first-both xs ys h = then-both (first xs) (first ys) (sym (first-append xs ys) ∙ h)
+
+-- ---- a row and its test
+
+pub when-refused : (test : Bool) (q r : Refusal) → when test q ≡ Refused r → (test ≡ true) × (q ≡ r)
+when-refused true q r h = (refl, cc)
+when-refused false q r h = absurd (not-both refl h)
+
+pub when-passed : (test : Bool) (q : Refusal) → when test q ≡ Passed → test ≡ false
+when-passed true q h = absurd (not-both h refl)
+when-passed false q h = refl
+
+-- ---- every row passes
+
+first-passes : (vs : List Verdict) → first vs ≡ Passed → Passes vs
+unfolding first _then_ rowAt
+first-passes [] h k = refl
+first-passes (Passed ∷ vs) h zero = refl
+first-passes (Passed ∷ vs) h (suc k) = first-passes vs h k
+first-passes (Refused r ∷ vs) h k = absurd (not-both h refl)
+
+passes-first : (vs : List Verdict) → Passes vs → first vs ≡ Passed
+unfolding first _then_ rowAt
+passes-first [] h = refl
+passes-first (v ∷ vs) h = rw (h 0) (passes-first vs (λ k. h (suc k)))
+
+pub passed-exactly : (vs : List Verdict) → (first vs ≡ Passed) ↔ Passes vs
+passed-exactly vs = (first-passes vs, passes-first vs)
+
+-- ---- some row refuses
+
+module _ {r : Refusal} where
+  later : {vs : List Verdict} {k : ℕ} → Gives vs k r → Gives (Passed ∷ vs) (suc k) r
+  unfolding rowAt
+  later {vs} {k} g = record { applies = g .applies; none-before = none }
+    where
+      none : (j : ℕ) → j < suc k → rowAt (Passed ∷ vs) j ≡ Passed
+      none zero h = refl
+      none (suc j) h = g .none-before j (omega arith)
+
+  first-gives : (vs : List Verdict) → first vs ≡ Refused r → (k : ℕ) × Gives vs k r
+  unfolding first _then_ rowAt
+  first-gives [] h = absurd (not-both refl h)
+  first-gives (Refused q ∷ vs) h = (0, record { applies = h; none-before = λ j l. absurd (omega arith) })
+  first-gives (Passed ∷ vs) h = let g = first-gives vs h in (suc (g .0), later (g .1))
+
+  gives-first : (vs : List Verdict) (k : ℕ) → Gives vs k r → first vs ≡ Refused r
+  unfolding first _then_ rowAt
+  gives-first [] k g = absurd (not-both refl (g .applies))
+  gives-first (Refused q ∷ vs) zero g = g .applies
+  gives-first (Refused q ∷ vs) (suc k) g = absurd (not-both (g .none-before 0 (omega arith)) refl)
+  gives-first (Passed ∷ vs) zero g = absurd (not-both refl (g .applies))
+  gives-first (Passed ∷ vs) (suc k) g = gives-first vs k (record { applies = g .applies; none-before = λ j l. g .none-before (suc j) (omega arith) })
+
+-- ---- each refusal has its own place
+
+pub when-place : (test : Bool) (q r : Refusal) → when test q ≡ Refused r → placeOf r ≡ placeOf q
+when-place test q r h = ap placeOf (sym (when-refused test q r h .1))
+
+placed-at : (n : ℕ) (vs : List Verdict) → Placed n vs → (k : ℕ) (r : Refusal) → rowAt vs k ≡ Refused r → placeOf r ≡ n + k
+unfolding rowAt
+placed-at n [] done k r h = absurd (not-both refl h)
+placed-at n (v ∷ vs) (own also p) zero r h = own r h ∙ omega arith
+placed-at n (v ∷ vs) (own also p) (suc k) r h = placed-at (suc n) vs p k r h ∙ omega arith
+
+pub first-exactly : (vs : List Verdict) → Placed 0 vs → (r : Refusal) → (first vs ≡ Refused r) ↔ Gives vs (placeOf r) r
+first-exactly vs p r = (there, gives-first vs (placeOf r))
+  where
+    there : first vs ≡ Refused r → Gives vs (placeOf r) r
+    there h =
+        let g = first-gives vs h in
+        let e : placeOf r ≡ g .0 = placed-at 0 vs p (g .0) r (g .1 .applies) ∙ omega arith in
+        rw e (g .1)

@@ -1,0 +1,3 @@
+-- The definitions that every promise about refusals uses.
+pub mod Refusal
+pub mod Rows

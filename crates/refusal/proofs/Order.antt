@@ -1,13 +1,13 @@
 -- The first that applies: `first` gives a refusal exactly if the row at its place does and each row before it passes; by induction on the table.
 use Prim.Native.Nat.{ℕ, zero, suc, _+_, _<_}
-use mathlib.Core.Path.{_≡_, refl, sym, ap, _∙_}
+use mathlib.Core.Path.{_≡_, refl, sym, ap, subst, _∙_}
 use mathlib.Core.Logic.{_↔_}
 use mathlib.Core.Bool.{Bool, true, false}
 use mathlib.Core.List.{List, [], _∷_, _++_}
 use native.Mathlib.Omega.{arith}
 use Rattle.refusal.specs.Refusal.{placeOf}
-use Rattle.refusal.specs.Rows.{when, _then_, first, rowAt, Gives, Passes, Placed}
-use Rattle.refusal.specs.Rows.Placed.{done, _also_}
+use Rattle.refusal.specs.Rows.{when, _then_, first, rowAt, Gives, Passes, Each, Placed}
+use Rattle.refusal.specs.Rows.Each.{done, _also_}
 use Rattle.refusal.specs.declared.Refusal.{Refusal}
 use Rattle.refusal.specs.declared.Verdict.{Verdict}
 use Rattle.refusal.specs.declared.Verdict.the-variants.{Passed, Refused}
@@ -94,22 +94,34 @@ module _ {r : Refusal} where
   gives-first (Passed ∷ vs) zero g = absurd (not-both refl (g .applies))
   gives-first (Passed ∷ vs) (suc k) g = gives-first vs k (record { applies = g .applies; none-before = λ j l. g .none-before (suc j) (omega arith) })
 
+-- ---- what holds of each row's refusals holds of the one that is given
+
+module _ {Q : ℕ → Refusal → Type 0} where
+  each-at : (n : ℕ) (vs : List Verdict) → Each Q n vs → (k : ℕ) (r : Refusal) → rowAt vs k ≡ Refused r → Q (n + k) r
+  unfolding rowAt
+  each-at n [] done k r h = absurd (not-both refl h)
+  each-at n (v ∷ vs) (own also rest) zero r h = let same : n ≡ n + 0 = omega arith in subst (λ (m : ℕ). Q m r) same (own r h)
+  each-at n (v ∷ vs) (own also rest) (suc k) r h =
+      let same : suc n + k ≡ n + suc k = omega arith in
+      subst (λ (m : ℕ). Q m r) same (each-at (suc n) vs rest k r h)
+
+  pub first-each : (vs : List Verdict) → Each Q 0 vs → (r : Refusal) → first vs ≡ Refused r → (k : ℕ) × Q k r
+  first-each vs all r h = let g = first-gives vs h in (_, each-at 0 vs all (g .0) r (g .1 .applies))
+
+  pub each-weaker : {R : ℕ → Refusal → Type 0} → ((n : ℕ) (r : Refusal) → Q n r → R n r) → {n : ℕ} {vs : List Verdict} → Each Q n vs → Each R n vs
+  each-weaker f done = done
+  each-weaker f {n} (own also rest) = (λ r h. f n r (own r h)) also each-weaker f rest
+
 -- ---- each refusal has its own place
 
 pub when-place : (test : Bool) (q r : Refusal) → when test q ≡ Refused r → placeOf r ≡ placeOf q
 when-place test q r h = ap placeOf (sym (when-refused test q r h .1))
 
-placed-at : (n : ℕ) (vs : List Verdict) → Placed n vs → (k : ℕ) (r : Refusal) → rowAt vs k ≡ Refused r → placeOf r ≡ n + k
-unfolding rowAt
-placed-at n [] done k r h = absurd (not-both refl h)
-placed-at n (v ∷ vs) (own also p) zero r h = own r h ∙ omega arith
-placed-at n (v ∷ vs) (own also p) (suc k) r h = placed-at (suc n) vs p k r h ∙ omega arith
-
-pub first-exactly : (vs : List Verdict) → Placed 0 vs → (r : Refusal) → (first vs ≡ Refused r) ↔ Gives vs (placeOf r) r
+pub first-exactly : (vs : List Verdict) → Placed vs → (r : Refusal) → (first vs ≡ Refused r) ↔ Gives vs (placeOf r) r
 first-exactly vs p r = (there, gives-first vs (placeOf r))
   where
     there : first vs ≡ Refused r → Gives vs (placeOf r) r
     there h =
         let g = first-gives vs h in
-        let e : placeOf r ≡ g .0 = placed-at 0 vs p (g .0) r (g .1 .applies) ∙ omega arith in
+        let e : placeOf r ≡ g .0 = each-at 0 vs p (g .0) r (g .1 .applies) ∙ omega arith in
         rw e (g .1)

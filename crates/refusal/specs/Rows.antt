@@ -39,7 +39,11 @@ pub record Gives (vs : List Verdict) (k : ℕ) (r : Refusal) : Type 0 where
 abbrev pub Passes : List Verdict → Type 0
 Passes vs = (k : ℕ) → rowAt vs k ≡ Passed
 
--- each row of a table, counted from n, gives only refusals whose place is its own
-pub data Placed : ℕ → List Verdict → Type 0 where
-  done : {n : ℕ} → Placed n []
-  _also_ : {n : ℕ} {v : Verdict} {vs : List Verdict} → ((r : Refusal) → v ≡ Refused r → placeOf r ≡ n) → Placed (suc n) vs → Placed n (v ∷ vs)
+-- each row of a table, counted from n, gives only refusals r with Q n r
+pub data Each (Q : ℕ → Refusal → Type 0) : ℕ → List Verdict → Type 0 where
+  done : {n : ℕ} → Each Q n []
+  _also_ : {n : ℕ} {v : Verdict} {vs : List Verdict} → ((r : Refusal) → v ≡ Refused r → Q n r) → Each Q (suc n) vs → Each Q n (v ∷ vs)
+
+-- each row gives only refusals whose place is its own
+abbrev pub Placed : List Verdict → Type 0
+Placed vs = Each (λ n r. placeOf r ≡ n) 0 vs

@@ -1,0 +1,6 @@
+-- The laws that the proofs of `elements`, and of the crates above it, cite.
+pub mod Range
+pub mod Sterbenz
+pub mod Exactly
+pub mod Bounds
+pub mod Only

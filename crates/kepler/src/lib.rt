@@ -1,7 +1,6 @@
 // Place in the orbit: the mean anomaly M of an instant, and the eccentric anomaly E of it by Kepler's equation, searched by
 // halving. `t` is the sine table, lent.
 ghost use mathlib.Core.Path.{_≡_};
-ghost use Rattle.fixed.specs.Scaled.{one};
 ghost use Rattle.fixed.specs.Within.{Is};
 ghost use Rattle.sine.specs.Sine.{sines};
 ghost use Rattle.kepler.specs.Kepler.{Period, phaseOf, Eccentricity, UpToATurn, K, mostMean, reached, searchOf, keplerOf};

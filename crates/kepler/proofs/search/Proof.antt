@@ -34,9 +34,7 @@ reaches-requires : tie.Need-reaches-requires Inv-loop μ-loop
 reaches-requires c κs = search needs
 
 loop-less : tie.Need-loop-less Inv-loop μ-loop
-loop-less c =
-    let here = c .before .before in
-    omega (arith, look-more _ (here .before .loop .inv .2) (here .loop-test .taken))
+loop-less c = omega (arith, look-more _ (c .before .before .before .loop .inv .2) (c .before .before .loop-test .taken))
 
 loop-again : tie.Need-loop-again Inv-loop μ-loop
 loop-again c =
@@ -44,9 +42,7 @@ loop-again c =
     (omega arith, here .before .loop .inv .1, look-up _ (here .before .loop .inv .2) (here .loop-test .taken) (sym (c .before .reaches .ensures) ∙ c .if1 .taken))
 
 loop-less-2 : tie.Need-loop-less-2 Inv-loop μ-loop
-loop-less-2 c =
-    let here = c .before .before in
-    omega (arith, look-more _ (here .before .loop .inv .2) (here .loop-test .taken))
+loop-less-2 c = omega (arith, look-more _ (c .before .before .before .loop .inv .2) (c .before .before .loop-test .taken))
 
 loop-again-2 : tie.Need-loop-again-2 Inv-loop μ-loop
 loop-again-2 c =

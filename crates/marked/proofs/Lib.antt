@@ -1,0 +1,2 @@
+-- That the marked cases hold.
+pub mod Hold

@@ -13,7 +13,7 @@ use lib.Ieee.Bits.{toBits-ofBits}
 use lib.Ieee.Scale.{finite}
 use Rattle.words.specs.Little.{readOf, Bytes}
 use Rattle.words.proofs.Laws.{read-lt}
-use Rattle.refusal.specs.Refusal.{placeOf, fieldOf, valueOf, bitsOf}
+use Rattle.refusal.specs.Refusal.{placeOf, fieldOf}
 use Rattle.refusal.specs.Rows.{when, _then_, first, rowAt, Gives, Passes, Each, Placed}
 use Rattle.refusal.specs.Rows.Each.{done, _also_}
 use Rattle.refusal.specs.declared.Refusal.{Refusal}
@@ -23,18 +23,13 @@ use Rattle.refusal.specs.declared.Verdict.the-variants as verdict
 use Rattle.refusal.proofs.Order.{not-both, when-refused, when-passed, when-place, first-each, each-weaker, first-exactly, passed-exactly}
 use Rattle.elements.specs.Field.{fieldAt, HasField, bitsIn, floatOf, fieldRow}
 use Rattle.elements.specs.Closest.{closestOf}
-use Rattle.elements.specs.Reading.{WholeRecord, elementsOf, orbitRows, skyRows, rowsFrom, recordRows, readFrom, readingOf}
+use Rattle.elements.specs.Reading.{WholeRecord, elementsOf, orbitRows, skyRows, rowsFrom, recordRows, readFrom, readingOf, Returns}
 use Rattle.elements.specs.Accepted.{Accepted}
 use Rattle.elements.specs.declared.reading.Elements.{Elements}
 use Rattle.elements.specs.declared.reading.Reading.the-variants.{Read, Refused}
 
--- ---- what a refusal of a record hands back
+-- ---- a row's refusals: their place, and what they hand back
 
--- a refusal that names field k returns its float and its bits, a NaN's own too
-abbrev pub Returns : List ℕ → Refusal → Type 0
-Returns s r = 0 < fieldOf r → (valueOf r ≡ floatOf s (fieldOf r)) × (bitsOf r ≡ bitsIn s (fieldOf r))
-
--- a row's refusals have their place and return what they should
 abbrev Told : List ℕ → ℕ → Refusal → Type 0
 Told s n r = (placeOf r ≡ n) × (WholeRecord s → Bytes s → Returns s r)
 

@@ -12,7 +12,7 @@ use lib.Ieee.Scale.{finite}
 use lib.Ieee.Positive.{num, den, den-pos, through}
 use Rattle.nearest.specs.Nearest.{UpTo, nearestOf, decimal, number}
 use Rattle.nearest.proofs.Nearest.{nearestOf-mono}
-use Rattle.elements.specs.Field.{within, below, axisIn, eccentricityIn, inclinationIn, fullTurn, periodIn, radiusIn, latitudeIn, elevationIn}
+use Rattle.elements.specs.Field.{within, below, axisIn, eccentricityIn, inclinationIn, turnIn, periodIn, radiusIn, latitudeIn, elevationIn}
 
 -- x is finite, and no larger in size than h
 pub record NoLarger (x h : Float) : Type 0 where
@@ -96,7 +96,7 @@ pub inclination-range : (x : Float) → T (inclinationIn x) → NoLarger x (numb
 unfolding decimal round
 inclination-range x h = within-no-larger _ _ _ _ (lit≤ tt) false x h
 
-pub turn-range : (x : Float) → T (fullTurn x) → NoLarger x (number 360)
+pub turn-range : (x : Float) → T (turnIn x) → NoLarger x (number 360)
 unfolding decimal round
 turn-range x h = below-no-larger _ _ _ _ (lit≤ tt) false x h
 
@@ -130,7 +130,7 @@ pub inclination-small : (x : Float) → T (inclinationIn x) → UpTo 9 x
 unfolding decimal round
 inclination-small x h = up-to 9 (inclination-range x h) (lit≤ tt)
 
-pub turn-small : (x : Float) → T (fullTurn x) → UpTo 9 x
+pub turn-small : (x : Float) → T (turnIn x) → UpTo 9 x
 unfolding decimal round
 turn-small x h = up-to 9 (turn-range x h) (lit≤ tt)
 

@@ -49,8 +49,8 @@ abbrev pub inclinationIn : Float → Bool
 inclinationIn x = within (number 0) (number 180) x
 
 -- fields 4, 5, 8, 11 and 12, degrees: 0 up to, not with, 360
-abbrev pub fullTurn : Float → Bool
-fullTurn x = below (number 0) (number 360) x
+abbrev pub turnIn : Float → Bool
+turnIn x = below (number 0) (number 360) x
 
 -- field 6, period, s: 60 to 2,000,000
 abbrev pub periodIn : Float → Bool

@@ -2,16 +2,18 @@
 use mathlib.Core.Bool.{not}
 use mathlib.Core.List.{List, [], _∷_, _++_}
 use mathlib.Core.Path.{_≡_}
-use Prim.Native.Nat.{ℕ}
+use Prim.Native.Nat.{ℕ, _<_}
 use lib.Dec.{eqb}
 use lib.ListN.{length}
 use lib.Ieee.{lt}
 use Rattle.words.specs.Little.{readOf}
+use Rattle.refusal.specs.Refusal.{fieldOf, valueOf, bitsOf}
 use Rattle.refusal.specs.Rows.{when, first}
+use Rattle.refusal.specs.declared.Refusal.{Refusal}
 use Rattle.refusal.specs.declared.Refusal.the-variants.{Length, Word, TooClose}
 use Rattle.refusal.specs.declared.Verdict.{Verdict}
 use Rattle.refusal.specs.declared.Verdict.the-variants as verdict
-use Rattle.elements.specs.Field.{floatOf, axisIn, eccentricityIn, inclinationIn, fullTurn, periodIn, radiusIn, latitudeIn, elevationIn, fieldRow}
+use Rattle.elements.specs.Field.{bitsIn, floatOf, axisIn, eccentricityIn, inclinationIn, turnIn, periodIn, radiusIn, latitudeIn, elevationIn, fieldRow}
 use Rattle.elements.specs.Closest.{closestOf}
 use Rattle.elements.specs.declared.reading.Elements.{Elements}
 use Rattle.elements.specs.declared.reading.Reading.{Reading}
@@ -56,19 +58,19 @@ orbitRows s e =
     fieldRow s 1 (e .axis) (axisIn (e .axis))
     ∷ fieldRow s 2 (e .eccentricity) (eccentricityIn (e .eccentricity))
     ∷ fieldRow s 3 (e .inclination) (inclinationIn (e .inclination))
-    ∷ fieldRow s 4 (e .node) (fullTurn (e .node))
-    ∷ fieldRow s 5 (e .periapsis) (fullTurn (e .periapsis))
+    ∷ fieldRow s 4 (e .node) (turnIn (e .node))
+    ∷ fieldRow s 5 (e .periapsis) (turnIn (e .periapsis))
     ∷ fieldRow s 6 (e .period) (periodIn (e .period))
     ∷ fieldRow s 7 (e .radius) (radiusIn (e .radius))
     ∷ []
 
 unfoldable pub skyRows : List ℕ → Elements → List Verdict
 skyRows s e =
-    fieldRow s 8 (e .ascension) (fullTurn (e .ascension))
+    fieldRow s 8 (e .ascension) (turnIn (e .ascension))
     ∷ fieldRow s 9 (e .declination) (latitudeIn (e .declination))
     ∷ fieldRow s 10 (e .latitude) (latitudeIn (e .latitude))
-    ∷ fieldRow s 11 (e .longitude) (fullTurn (e .longitude))
-    ∷ fieldRow s 12 (e .greenwich) (fullTurn (e .greenwich))
+    ∷ fieldRow s 11 (e .longitude) (turnIn (e .longitude))
+    ∷ fieldRow s 12 (e .greenwich) (turnIn (e .greenwich))
     ∷ fieldRow s 13 (e .elevation) (elevationIn (e .elevation))
     ∷ []
 
@@ -95,3 +97,7 @@ readFrom (verdict.Refused r) e = Refused r
 
 unfoldable pub readingOf : List ℕ → Reading
 readingOf s = readFrom (first (recordRows s)) (elementsOf s)
+
+-- what a refusal of the record s returns where it names field k: its float, and its bits
+abbrev pub Returns : List ℕ → Refusal → Type 0
+Returns s r = 0 < fieldOf r → (valueOf r ≡ floatOf s (fieldOf r)) × (bitsOf r ≡ bitsIn s (fieldOf r))

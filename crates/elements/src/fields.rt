@@ -2,7 +2,7 @@
 ghost use mathlib.Core.Path.{_≡_};
 ghost use lib.Ieee.{binary64, ofBits};
 ghost use lib.Ieee.Scale.{finite};
-ghost use Rattle.elements.specs.Field.{within, below, fullTurn, HasField, floatOf, fieldRow};
+ghost use Rattle.elements.specs.Field.{within, below, turnIn, HasField, floatOf, fieldRow};
 use refusal::Refusal;
 use refusal::Verdict;
 use refusal::row;
@@ -43,7 +43,7 @@ fn is_within(x: f64, low: f64, high: f64) -> bool
 
 // From 0 up to, not with, 360.
 fn is_turn(x: f64) -> bool
-    ensures { λ r. ⌜ r ≡ fullTurn x ⌝ }
+    ensures { λ r. ⌜ r ≡ turnIn x ⌝ }
 {
     0.0 <= x && x < 360.0
 }
@@ -75,7 +75,7 @@ pub fn field(s: &[u8], k: u32, x: f64, low: f64, high: f64) -> Verdict
 // Field k with the float x, an angle from 0 up to, not with, 360.
 pub fn turn(s: &[u8], k: u32, x: f64) -> Verdict
     requires { ⌜ HasField (now s) k ⌝ }
-    ensures { λ v. ⌜ v ≡ fieldRow (now (s .entry)) k x (fullTurn x) ⌝ }
+    ensures { λ v. ⌜ v ≡ fieldRow (now (s .entry)) k x (turnIn x) ⌝ }
 {
     judged(s, k, x, is_turn(x))
 }

@@ -31,21 +31,21 @@ fieldOf Room = 0
 fieldOf Kepler = 0
 
 -- 0.0
-abbrev pub nothing : Float
-nothing = ofBits binary64 0
+abbrev pub zero : Float
+zero = ofBits binary64 0
 
 -- the number returned: the field's, the closest distance, or 0.0
 abbrev pub valueOf : Refusal → Float
-valueOf Length = nothing
-valueOf Word = nothing
+valueOf Length = zero
+valueOf Word = zero
 valueOf (NotFinite k x b) = x
 valueOf (OutOfRange k x) = x
 valueOf (TooClose d) = d
-valueOf Window = nothing
-valueOf Step = nothing
-valueOf Question = nothing
-valueOf Room = nothing
-valueOf Kepler = nothing
+valueOf Window = zero
+valueOf Step = zero
+valueOf Question = zero
+valueOf Room = zero
+valueOf Kepler = zero
 
 -- its bits; for a field that is NaN or infinite they are the record's own, which tell one NaN from another
 abbrev pub bitsOf : Refusal → ℕ

@@ -6,14 +6,15 @@ use mathlib.Core.Bool.{Bool, true, false, not, cond}
 use mathlib.Core.List.{List}
 use native.Mathlib.Omega.{arith}
 use borrow.Author.Tests.{eqb-true, not-false, eq-eqb, ne-eqb}
-use lib.Dec.{T, eqb, lit≤}
+use lib.Dec.{T, eqb, lit≤, lit<}
 use lib.ListN.{length}
 use lib.Ieee.{Float, nan, inf, fin, binary64, isNan, lt}
 use lib.Ieee.Bits.{toBits-ofBits}
+use lib.Ieee.Positive.{positive}
 use lib.Ieee.Scale.{finite}
 use Rattle.words.specs.Little.{readOf, Bytes}
 use Rattle.words.proofs.Laws.{read-lt}
-use Rattle.refusal.specs.Refusal.{placeOf, fieldOf}
+use Rattle.refusal.specs.Refusal.{placeOf, fieldOf, valueOf}
 use Rattle.refusal.specs.Rows.{when, _then_, first, rowAt, Gives, Passes, Each, Placed}
 use Rattle.refusal.specs.Rows.Each.{done, _also_}
 use Rattle.refusal.specs.declared.Refusal.{Refusal}
@@ -25,6 +26,7 @@ use Rattle.elements.specs.Field.{fieldAt, HasField, bitsIn, floatOf, fie
 use Rattle.elements.specs.Closest.{closestOf}
 use Rattle.elements.specs.Reading.{WholeRecord, elementsOf, orbitRows, skyRows, rowsFrom, recordRows, readFrom, readingOf, Returns}
 use Rattle.elements.specs.Accepted.{Accepted}
+use Rattle.elements.proofs.Distance.{distance-positive}
 use Rattle.elements.specs.declared.reading.Elements.{Elements}
 use Rattle.elements.specs.declared.reading.Reading.the-variants.{Read, Refused}
 
@@ -150,6 +152,17 @@ module _ (s : List ℕ) where
   pub refused-returns : (r : Refusal) → WholeRecord s → Bytes s → readingOf s ≡ Refused r → Returns s r
   unfolding readingOf
   refused-returns r w b h = first-each (recordRows s) (told s) r (refused-from (first (recordRows s)) (elementsOf s) r h) .1 .1 w b
+
+  -- refusal 5's distance is a finite number above 0
+  pub refused-distance : (d : Float) → readingOf s ≡ Refused (TooClose d) → T (positive d)
+  unfolding orbitRows skyRows elementsOf rowAt
+  refused-distance d h =
+      let g = refused-exactly (TooClose d) .0 h in
+      let e = elementsOf s in
+      let own = closestOf (e .axis) (e .eccentricity) in
+      let same : own ≡ d = ap valueOf (when-refused (not (lt (e .radius) own)) (TooClose own) (TooClose d) (g .applies) .1) in
+      subst (λ (x : Float). T (positive x)) same
+      (distance-positive (e .axis) (e .eccentricity) (field-in s 1 _ (g .none-before 2 (lit< tt))) (field-in s 2 _ (g .none-before 3 (lit< tt))))
 
   -- read exactly if every row passes, and then the elements are the record's floats
   pub read-exactly : (e : Elements) → (readingOf s ≡ Read e) ↔ (Passes (recordRows s) × (e ≡ elementsOf s))

@@ -17,7 +17,7 @@ use Rattle.nearest.proofs.Exact.{pow-le-back}
 use Rattle.elements.specs.Field.{eccentricityIn}
 
 -- ---- the sum is one rounding of the exact difference
-less-is : (m : ℕ) (e : ℤ) → m * up e ≤ down e → sub binary64 (fin false 1 (pos 0)) (fin false m e) ≡ round binary64 false (down e - m * up e) (down e)
+pub less-is : (m : ℕ) (e : ℤ) → m * up e ≤ down e → sub binary64 (fin false 1 (pos 0)) (fin false m e) ≡ round binary64 false (down e - m * up e) (down e)
 unfolding sub add neg sum
 less-is m e h = simp (mul-one, one-mul, le-ltb (down e) (m * up e) h)
 

@@ -1,7 +1,7 @@
 -- One field of the orbit record: its bits, its float, what is accepted, and its row (document 01, "What the desk feeds and gets" and "Turned away").
 use mathlib.Core.Bool.{Bool, _&&_, not, cond}
 use mathlib.Core.List.{List}
-use Prim.Native.Nat.{ℕ, _+_, _*_, _-_}
+use Prim.Native.Nat.{ℕ, _*_}
 use lib.Ieee.{Float, binary64, ofBits, neg, le, lt}
 use lib.Ieee.Scale.{finite}
 use Rattle.words.specs.Little.{readOf, Holds}

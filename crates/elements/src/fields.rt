@@ -2,7 +2,7 @@
 ghost use mathlib.Core.Path.{_≡_};
 ghost use lib.Ieee.{binary64, ofBits};
 ghost use lib.Ieee.Scale.{finite};
-ghost use Rattle.elements.specs.Field.{within, below, turnIn, HasField, floatOf, fieldRow};
+ghost use Rattle.elements.specs.Field.{within, turnIn, HasField, floatOf, fieldRow};
 use refusal::Refusal;
 use refusal::Verdict;
 use refusal::row;

@@ -1,6 +1,5 @@
 -- `elements::float` meets its contract: the float of the bits that stand there.
 use mathlib.Core.Path.{ap, _∙_}
-use Prim.Native.Nat.{ℕ}
 use lib.Ieee.{binary64, ofBits}
 use borrow.Author.Needs.{needs}
 use Rattle.elements.proofs.fields.float.Statement.{statement}

@@ -1,7 +1,7 @@
 -- `elements::is_finite` meets its contract: only what is finite lies between the two infinities.
 use mathlib.Core.Path.{_≡_, refl, sym, ap, _∙_}
 use mathlib.Core.Bool.{Bool, true, false, _&&_}
-use lib.Ieee.{Float, nan, inf, fin, binary64, lt, neg, div, ofBits}
+use lib.Ieee.{Float, nan, inf, fin, lt, neg, div, ofBits}
 use lib.Ieee.Scale.{finite}
 use Rattle.elements.proofs.fields.is_finite.Statement.{statement}
 use Rattle.elements.proofs.fields.is_finite.Tie as tie

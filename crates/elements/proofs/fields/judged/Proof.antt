@@ -1,11 +1,6 @@
 -- `elements::judged` meets its contract: by whether the float is finite.
-use mathlib.Core.Path.{sym, ap, _∙_}
-use mathlib.Core.Bool.{Bool, not, cond}
-use Prim.Native.Nat.{ℕ}
-use Rattle.refusal.specs.Rows.{when}
-use Rattle.refusal.specs.declared.Refusal.the-variants.{NotFinite, OutOfRange}
-use Rattle.refusal.specs.declared.Verdict.the-variants.{Refused}
-use Rattle.elements.specs.Field.{bitsIn, fieldRow}
+use mathlib.Core.Path.{sym, _∙_}
+use Rattle.elements.specs.Field.{fieldRow}
 use borrow.Author.Needs.{needs}
 use Rattle.elements.proofs.fields.judged.Statement.{statement}
 use Rattle.elements.proofs.fields.judged.Tie as tie

@@ -1,0 +1,53 @@
+-- `rotation::row_q` meets its contract, entry by entry: what is read back is what was stored.
+use mathlib.Core.Path.{ap, _∙_}
+use lib.IntN.{negℤ}
+use borrow.Author.Needs.{needs}
+use Rattle.fixed.proofs.Machine.{back, got}
+use Rattle.rotation.specs.Rotation.{rowQ}
+use Rattle.rotation.proofs.Stored.{stored, times, plus-three, minus-three, row}
+use Rattle.rotation.proofs.row_q.Statement.{statement}
+use Rattle.rotation.proofs.row_q.Tie as tie
+
+minus-unit-requires : tie.Need-minus-unit-requires
+minus-unit-requires c κs = search needs
+
+minus-requires : tie.Need-minus-requires
+minus-requires c κs = search needs
+
+minus-unit-requires-2 : tie.Need-minus-unit-requires-2
+minus-unit-requires-2 c κs = search needs
+
+plus-requires : tie.Need-plus-requires
+plus-requires c κs = search needs
+
+unit-requires : tie.Need-unit-requires
+unit-requires c κs = search needs
+
+returns : tie.Need-returns
+unfolding rowQ
+returns c =
+    let second = c .before .before .before in
+    let inner = second .before .before .before .before in
+    let first = inner .before .before .before in
+    let start = first .before .before .before .before in
+    let s = start .before .before .before in
+    let ω = s .pre .0 in
+    let Ω = s .pre .1 in
+    let i = s .pre .2 in
+    row
+    (got (first .minus .result) (first .minus .ok)
+    ∙ minus-three (first .minus .ensures) (stored (start .minus-unit .ensures) (ap negℤ (times (back (ω .sin) tt) (back (Ω .cos) tt)))) (back (ω .cos) tt) (back (Ω .sin) tt) (back (i .cos) tt))
+    (got (second .plus .result) (second .plus .ok)
+    ∙ plus-three (second .plus .ensures) (stored (inner .minus-unit2 .ensures) (ap negℤ (times (back (ω .sin) tt) (back (Ω .sin) tt)))) (back (ω .cos) tt) (back (Ω .cos) tt) (back (i .cos) tt))
+    (stored (c .unit .ensures) (times (back (ω .cos) tt) (back (i .sin) tt)))
+
+pub row-q-spec : {M : Type 1} → statement M
+row-q-spec =
+    tie.close
+    (tie.spec
+    minus-unit-requires
+    minus-requires
+    minus-unit-requires-2
+    plus-requires
+    unit-requires
+    returns)

@@ -1,0 +1,119 @@
+// Turns, directions, and the rotation to the orbit's own axes. `t` is the sine table, lent.
+ghost use mathlib.Core.Path.{_≡_};
+ghost use lib.IntN.{negℤ, _+ℤ_, _-ℤ_};
+ghost use Rattle.fixed.specs.Scaled.{one, _∘_};
+ghost use Rattle.fixed.specs.Within.{Small, Is};
+ghost use Rattle.sine.specs.Sine.{sines};
+ghost use Rattle.rotation.specs.Rotation.{turnOf, UnitTurn, directionOf, rowP, rowQ, rowW, rotationOf};
+use angle::Angle;
+
+// The cosine and the sine of one angle, in units of 2^-30.
+pub struct Turn {
+    pub cos: i64,
+    pub sin: i64,
+}
+
+// The turn of an angle: each is read off the table once and used in several products.
+pub fn turn_of(t: &[u32], theta: Angle) -> Turn
+    requires { ⌜ now t ≡ sines ⌝ }
+    ensures { λ r. ⌜ r ≡ turnOf (theta .units) ⌝ }
+{
+    Turn {
+        cos: sine::cosine(t, theta),
+        sin: sine::sine(t, theta),
+    }
+}
+
+// x + c∘d∘e, the product of three taken from the left.
+fn plus(x: i64, c: i64, d: i64, e: i64) -> i64
+    requires { ⌜ (Small x) × (Small c) × (Small d) × (Small e) ⌝ }
+    ensures { λ r. ⌜ r ≡ x +ℤ c ∘ d ∘ e ⌝ }
+{
+    x + fixed::unit(fixed::unit(c, d), e)
+}
+
+// x − c∘d∘e, the product of three taken from the left.
+fn minus(x: i64, c: i64, d: i64, e: i64) -> i64
+    requires { ⌜ (Small x) × (Small c) × (Small d) × (Small e) ⌝ }
+    ensures { λ r. ⌜ r ≡ x -ℤ c ∘ d ∘ e ⌝ }
+{
+    x - fixed::unit(fixed::unit(c, d), e)
+}
+
+// −(a∘b), negated after the floor.
+fn minus_unit(a: i64, b: i64) -> i64
+    requires { ⌜ (Small a) × (Small b) ⌝ }
+    ensures { λ r. ⌜ Is r (negℤ (a ∘ b)) one ⌝ }
+{
+    -fixed::unit(a, b)
+}
+
+// Row P, toward the periapsis.
+fn row_p(peri: Turn, node: Turn, incl: Turn) -> [i64; 3]
+    requires { ⌜ (UnitTurn peri) × (UnitTurn node) × (UnitTurn incl) ⌝ }
+    ensures { λ r. ⌜ r ≡ rowP peri node incl ⌝ }
+{
+    [
+        minus(
+            fixed::unit(peri.cos, node.cos),
+            peri.sin,
+            node.sin,
+            incl.cos,
+        ),
+        plus(
+            fixed::unit(peri.cos, node.sin),
+            peri.sin,
+            node.cos,
+            incl.cos,
+        ),
+        fixed::unit(peri.sin, incl.sin),
+    ]
+}
+
+// Row Q, a quarter turn on in the orbit.
+fn row_q(peri: Turn, node: Turn, incl: Turn) -> [i64; 3]
+    requires { ⌜ (UnitTurn peri) × (UnitTurn node) × (UnitTurn incl) ⌝ }
+    ensures { λ r. ⌜ r ≡ rowQ peri node incl ⌝ }
+{
+    [
+        minus(minus_unit(peri.sin, node.cos), peri.cos, node.sin, incl.cos),
+        plus(minus_unit(peri.sin, node.sin), peri.cos, node.cos, incl.cos),
+        fixed::unit(peri.cos, incl.sin),
+    ]
+}
+
+// Row W, up from the orbit. The hidden answer does not use it.
+fn row_w(node: Turn, incl: Turn) -> [i64; 3]
+    requires { ⌜ (UnitTurn node) × (UnitTurn incl) ⌝ }
+    ensures { λ r. ⌜ r ≡ rowW node incl ⌝ }
+{
+    [
+        fixed::unit(node.sin, incl.sin),
+        minus_unit(node.cos, incl.sin),
+        incl.cos,
+    ]
+}
+
+// The rotation of the periapsis argument, the node and the inclination, as three rows of three.
+pub fn rotation(peri: Turn, node: Turn, incl: Turn) -> [[i64; 3]; 3]
+    requires { ⌜ (UnitTurn peri) × (UnitTurn node) × (UnitTurn incl) ⌝ }
+    ensures { λ r. ⌜ r ≡ rotationOf peri node incl ⌝ }
+{
+    [
+        row_p(peri, node, incl),
+        row_q(peri, node, incl),
+        row_w(node, incl),
+    ]
+}
+
+// The direction at a right ascension and a declination.
+pub fn direction(ascension: Turn, declination: Turn) -> [i64; 3]
+    requires { ⌜ (UnitTurn ascension) × (UnitTurn declination) ⌝ }
+    ensures { λ r. ⌜ r ≡ directionOf ascension declination ⌝ }
+{
+    [
+        fixed::unit(declination.cos, ascension.cos),
+        fixed::unit(declination.cos, ascension.sin),
+        declination.sin,
+    ]
+}

@@ -6,6 +6,7 @@ ghost use Rattle.fixed.specs.Within.{Small, Is};
 ghost use Rattle.sine.specs.Sine.{sines};
 ghost use Rattle.rotation.specs.Rotation.{turnOf, UnitTurn, directionOf, rowP, rowQ, rowW, rotationOf};
 use angle::Angle;
+use fixed::unit;
 
 // The cosine and the sine of one angle, in units of 2^-30.
 pub struct Turn {
@@ -18,10 +19,9 @@ pub fn turn_of(t: &[u32], theta: Angle) -> Turn
     requires { ⌜ now t ≡ sines ⌝ }
     ensures { λ r. ⌜ r ≡ turnOf (theta .units) ⌝ }
 {
-    Turn {
-        cos: sine::cosine(t, theta),
-        sin: sine::sine(t, theta),
-    }
+    let cos = sine::cosine(t, theta);
+    let sin = sine::sine(t, theta);
+    Turn { cos, sin }
 }
 
 // x + c∘d∘e, the product of three taken from the left.
@@ -29,7 +29,7 @@ fn plus(x: i64, c: i64, d: i64, e: i64) -> i64
     requires { ⌜ (Small x) × (Small c) × (Small d) × (Small e) ⌝ }
     ensures { λ r. ⌜ r ≡ x +ℤ c ∘ d ∘ e ⌝ }
 {
-    x + fixed::unit(fixed::unit(c, d), e)
+    x + unit(unit(c, d), e)
 }
 
 // x − c∘d∘e, the product of three taken from the left.
@@ -37,7 +37,7 @@ fn minus(x: i64, c: i64, d: i64, e: i64) -> i64
     requires { ⌜ (Small x) × (Small c) × (Small d) × (Small e) ⌝ }
     ensures { λ r. ⌜ r ≡ x -ℤ c ∘ d ∘ e ⌝ }
 {
-    x - fixed::unit(fixed::unit(c, d), e)
+    x - unit(unit(c, d), e)
 }
 
 // −(a∘b), negated after the floor.
@@ -45,7 +45,7 @@ fn minus_unit(a: i64, b: i64) -> i64
     requires { ⌜ (Small a) × (Small b) ⌝ }
     ensures { λ r. ⌜ Is r (negℤ (a ∘ b)) one ⌝ }
 {
-    -fixed::unit(a, b)
+    -unit(a, b)
 }
 
 // Row P, toward the periapsis.
@@ -54,19 +54,9 @@ fn row_p(peri: Turn, node: Turn, incl: Turn) -> [i64; 3]
     ensures { λ r. ⌜ r ≡ rowP peri node incl ⌝ }
 {
     [
-        minus(
-            fixed::unit(peri.cos, node.cos),
-            peri.sin,
-            node.sin,
-            incl.cos,
-        ),
-        plus(
-            fixed::unit(peri.cos, node.sin),
-            peri.sin,
-            node.cos,
-            incl.cos,
-        ),
-        fixed::unit(peri.sin, incl.sin),
+        minus(unit(peri.cos, node.cos), peri.sin, node.sin, incl.cos),
+        plus(unit(peri.cos, node.sin), peri.sin, node.cos, incl.cos),
+        unit(peri.sin, incl.sin),
     ]
 }
 
@@ -78,7 +68,7 @@ fn row_q(peri: Turn, node: Turn, incl: Turn) -> [i64; 3]
     [
         minus(minus_unit(peri.sin, node.cos), peri.cos, node.sin, incl.cos),
         plus(minus_unit(peri.sin, node.sin), peri.cos, node.cos, incl.cos),
-        fixed::unit(peri.cos, incl.sin),
+        unit(peri.cos, incl.sin),
     ]
 }
 
@@ -88,7 +78,7 @@ fn row_w(node: Turn, incl: Turn) -> [i64; 3]
     ensures { λ r. ⌜ r ≡ rowW node incl ⌝ }
 {
     [
-        fixed::unit(node.sin, incl.sin),
+        unit(node.sin, incl.sin),
         minus_unit(node.cos, incl.sin),
         incl.cos,
     ]
@@ -112,8 +102,8 @@ pub fn direction(ascension: Turn, declination: Turn) -> [i64; 3]
     ensures { λ r. ⌜ r ≡ directionOf ascension declination ⌝ }
 {
     [
-        fixed::unit(declination.cos, ascension.cos),
-        fixed::unit(declination.cos, ascension.sin),
+        unit(declination.cos, ascension.cos),
+        unit(declination.cos, ascension.sin),
         declination.sin,
     ]
 }

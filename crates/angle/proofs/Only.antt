@@ -11,7 +11,7 @@ use Rattle.angle.proofs.Angle.add.Reads as add-reads
 use Rattle.angle.proofs.Angle.from_degrees.Kinds as from-degrees
 use Rattle.angle.proofs.Angle.from_degrees.Reads as from-degrees-reads
 
-by-units : (x y : Angle) → x .units ≡ y .units → x ≡ y
+pub by-units : (x y : Angle) → x .units ≡ y .units → x ≡ y
 by-units x y e = ap (λ (u : ℕ). record { units = u }) e
 
 pub negate-only : OneResult 0 negate.ps negate.r negate-reads.Post

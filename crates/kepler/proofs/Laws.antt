@@ -1,0 +1,83 @@
+-- The laws of M and of Kepler's search, for every eccentricity and every instant: by those of halving, and by the sine of 0.
+use mathlib.Core.Path.{_≡_, refl, subst, sym}
+use mathlib.Core.Bool.{Bool, true, false, not}
+use Prim.Native.Nat.{ℕ, _+_, _*_, _%_, _<_}
+use native.Mathlib.Nat.{div-lt-iff-lt-mul, mod-lt}
+use native.Mathlib.Omega.{arith}
+use lib.Dec.{T, lit≤, lit<, leb·zero, lt→ltb, nleb→lt}
+use lib.IntN.{ℤ, pos, negsuc, +ℤ-idr}
+use lib.Signed.{leZ, ltZ, _≤ℤ_, _<ℤ_, leZ-yes, ltZ-yes}
+use borrow.Author.Tests.{lt-leb}
+use Rattle.halving.proofs.Laws.{Ends, Differ, ends, differ}
+use Rattle.fixed.proofs.Within.{scaled-zero, zero-scaled}
+use Rattle.nearest.specs.Nearest.{nearest}
+use Rattle.angle.specs.Turn.{turn}
+use Rattle.sine.specs.Table.{π, π-unit, entryOf, scaledSine, added, taken, term, factorial}
+use Rattle.sine.specs.Sine.{wayOf, readingOf, foldOf, sineOf}
+use Rattle.kepler.specs.Kepler.{Period, phaseOf, radian, K, reached, searchOf, keplerOf}
+
+-- 683,565,276 is the nearest whole number to 2^32/2π, with the table's π
+pub radian-nearest : radian ≡ nearest (turn * π-unit) (2 * π)
+radian-nearest = refl
+
+-- a phase is less than a turn
+pub phase-lt : (p t : ℕ) → Period p → phaseOf p t < turn
+unfolding phaseOf
+phase-lt p t h = div-lt-iff-lt-mul h .1 (omega (arith, mod-lt t h))
+
+-- ---- K at the ends of the search: at a whole turn the two anomalies agree
+
+sine-0 : sineOf 0 ≡ pos 0
+unfolding sineOf foldOf readingOf wayOf entryOf scaledSine added taken term factorial
+sine-0 = refl
+
+K-whole : (e E : ℕ) → E % turn ≡ 0 → K e E ≡ pos E
+unfolding K
+K-whole e E h = rw (h, sine-0, scaled-zero, zero-scaled) (+ℤ-idr (pos E))
+
+-- ---- where the search ends
+
+search-ends : (e M : ℕ) → Ends 0 turn (searchOf e M)
+unfolding searchOf
+search-ends e M = ends (reached e M) 32 0 turn 0 (lit< tt) (lit≤ tt)
+
+-- the final width is one, whatever e and M are: so refusal 10 never applies
+pub one-wide : (e M : ℕ) → searchOf e M .high ≡ searchOf e M .low + 1
+one-wide e M = search-ends e M .neighbours
+
+-- E is less than a turn
+pub kepler-lt : (e M : ℕ) → keplerOf e M < turn
+unfolding keplerOf
+kepler-lt e M = omega (arith, search-ends e M)
+
+-- ---- K(E) ≤ M < K(E + 1), for M less than a turn
+
+passed : (a b : ℤ) → leZ a b ≡ true → a ≤ℤ b
+passed a b t = leZ-yes (subst T (sym t) tt)
+
+not-le : (a b : ℤ) → T (not (leZ a b)) → T (ltZ b a)
+not-le (pos a) (pos b) t = lt→ltb b a (nleb→lt a b t)
+not-le (pos a) (negsuc b) t = tt
+not-le (negsuc a) (pos b) t = absurd t
+not-le (negsuc a) (negsuc b) t = lt→ltb a b (nleb→lt b a t)
+
+failed : (a b : ℤ) → leZ a b ≡ false → b <ℤ a
+failed a b t = ltZ-yes (not-le a b (subst (λ (x : Bool). T (not x)) (sym t) tt))
+
+search-differs : (e M : ℕ) → M < turn → Differ (reached e M) (searchOf e M .low) (searchOf e M .high)
+unfolding searchOf reached
+search-differs e M h =
+    differ (reached e M) 32 0 turn 0
+    (record { low-moves = rw (K-whole e 0 refl) (leb·zero M); high-stays = rw (K-whole e turn refl) (lt-leb turn M h) })
+
+pub record Solves (e M E : ℕ) : Type 0 where
+  pub reached-here : K e E ≤ℤ pos M
+  pub not-beyond : pos M <ℤ K e (E + 1)
+
+pub kepler-solves : (e M : ℕ) → M < turn → Solves e M (keplerOf e M)
+unfolding reached keplerOf
+kepler-solves e M h =
+    record {
+      reached-here = passed _ _ (search-differs e M h .low-moves);
+      not-beyond = subst (λ (E : ℕ). pos M <ℤ K e E) (one-wide e M) (failed _ _ (search-differs e M h .high-stays));
+    }

@@ -1,0 +1,31 @@
+-- `kepler::reaches` meets its contract: both sides of the test are the numbers that they stand for.
+use mathlib.Core.Path.{_≡_}
+use Prim.Native.Nat.{_≤_}
+use native.Mathlib.Omega.{arith}
+use lib.IntN.{ℤ}
+use lib.Signed.{leZ}
+use borrow.Author.Needs.{needs}
+use Rattle.fixed.proofs.Machine.{held, cast}
+use Rattle.angle.specs.Turn.{turn}
+use Rattle.kepler.specs.Kepler.{reached}
+use Rattle.kepler.proofs.reaches.Statement.{statement}
+use Rattle.kepler.proofs.reaches.Tie as tie
+
+mean-requires : tie.Need-mean-requires
+mean-requires c κs = search needs
+
+cast-result : tie.Need-cast-result
+cast-result c = search needs
+
+-- the test of what stands for two numbers is the test of the numbers
+compared : {x v y w : ℤ} → x ≡ v → y ≡ w → leZ x y ≡ leZ v w
+compared e f = cc
+
+returns : tie.Need-returns
+unfolding reached
+returns c =
+    let small : c .before .before .before .args .m .units ≤ turn = omega arith in
+    compared (held (c .before .mean .ensures) tt .is) (cast small tt .is)
+
+pub reaches-spec : {M : Type 1} → statement M
+reaches-spec = tie.close (tie.spec mean-requires cast-result returns)

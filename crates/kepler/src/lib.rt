@@ -1,0 +1,70 @@
+// Place in the orbit: the mean anomaly M of an instant, and the eccentric anomaly E of it by Kepler's equation, searched by
+// halving. `t` is the sine table, lent.
+ghost use mathlib.Core.Path.{_≡_};
+ghost use Rattle.fixed.specs.Scaled.{one};
+ghost use Rattle.fixed.specs.Within.{Is};
+ghost use Rattle.sine.specs.Sine.{sines};
+ghost use Rattle.kepler.specs.Kepler.{Period, phaseOf, Eccentricity, UpToATurn, K, mostMean, reached, searchOf, keplerOf};
+use angle::Angle;
+
+const TURN: u64 = 4_294_967_296;
+
+// The nearest whole number to 2^32/2π.
+const RADIAN: i64 = 683_565_276;
+
+// How far an instant lies in a turn that takes `period`: M, and the station's turn in a day.
+pub fn phase(period: u32, at: u64) -> Angle
+    requires { ⌜ Period period ⌝ }
+    ensures { λ r. ⌜ r .units ≡ phaseOf period at ⌝ }
+{
+    let p = period as u64;
+    let units = (at % p * TURN / p) as u32;
+    Angle { units }
+}
+
+// The mean anomaly of an eccentric one: K(E).
+fn mean(t: &[u32], e: u32, at: u64) -> i64
+    requires { ⌜ (now t ≡ sines) × (Eccentricity e) × (UpToATurn at) ⌝ }
+    ensures { λ r. ⌜ Is r (K e at) mostMean ⌝ }
+{
+    let units = (at % TURN) as u32;
+    let es = fixed::unit(e as i64, sine::sine(t, Angle { units }));
+    (at as i64) - fixed::unit(es, RADIAN)
+}
+
+// Whether the low end moves to E: K(E) ≤ M.
+fn reaches(t: &[u32], e: u32, m: Angle, at: u64) -> bool
+    requires { ⌜ (now t ≡ sines) × (Eccentricity e) × (UpToATurn at) ⌝ }
+    ensures { λ r. ⌜ r ≡ reached e (m .units) at ⌝ }
+{
+    mean(t, e, at) <= m.units as i64
+}
+
+// Where the search of E ends, and how many middles it asked.
+pub fn search(t: &[u32], e: u32, m: Angle) -> halving::Edge
+    requires { ⌜ (now t ≡ sines) × (Eccentricity e) ⌝ }
+    ensures { λ r. ⌜ r ≡ searchOf e (m .units) ⌝ }
+{
+    let mut low: u64 = 0;
+    let mut high: u64 = TURN;
+    let mut asked: u64 = 0;
+    while low + 1 < high {
+        let middle = (low + high) / 2;
+        asked += 1;
+        if reaches(t, e, m, middle) {
+            low = middle;
+        } else {
+            high = middle;
+        }
+    }
+    halving::Edge { low, high, asked }
+}
+
+// The eccentric anomaly E, the low end of the search.
+pub fn eccentric(t: &[u32], e: u32, m: Angle) -> Angle
+    requires { ⌜ (now t ≡ sines) × (Eccentricity e) ⌝ }
+    ensures { λ r. ⌜ r .units ≡ keplerOf e (m .units) ⌝ }
+{
+    let units = search(t, e, m).low as u32;
+    Angle { units }
+}

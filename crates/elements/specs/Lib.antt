@@ -1,0 +1,2 @@
+-- The definitions that the contracts of `elements` cite.
+pub mod Rounding

@@ -1,0 +1,2 @@
+// Stand-in: the elements as whole numbers.
+pub mod rounding;

@@ -1,14 +1,14 @@
--- Bounds, entry by entry: a turn's cosine and sine and a direction's entries are within one; those of rows P and Q within two.
+-- Bounds, entry by entry: of a turn and a direction all are within one, of a row P or Q two within two and one within one.
 use mathlib.Core.Path.{_≡_}
-use mathlib.Core.List.{[]}
+use mathlib.Core.List.{List}
 use Prim.Native.Nat.{ℕ, _*_}
 use lib.Dec.{lit≤}
-use lib.ListN.{getD}
-use Rattle.fixed.specs.Scaled.{one}
-use Rattle.fixed.specs.Within.{Entries}
-use Rattle.fixed.proofs.Within.{small-scaled, neg-within, add-within, sub-within, wider}
+use lib.IntN.{ℤ}
+use Rattle.fixed.specs.Scaled.{one, at, dotOf}
+use Rattle.fixed.specs.Within.{Within, Small, Entries}
+use Rattle.fixed.proofs.Within.{scaled-within, small-scaled, neg-within, add-within, sub-within, wider}
 use Rattle.sine.proofs.Laws.{sine-small, cosine-small}
-use Rattle.rotation.specs.Rotation.{turnOf, UnitTurn, directionOf, rowP, rowQ, rotationOf}
+use Rattle.rotation.specs.Rotation.{turnOf, UnitTurn, directionOf, rowP, rowQ}
 use Rattle.rotation.specs.declared.Turn.{Turn}
 
 pub turn-unit : (θ : ℕ) → UnitTurn (turnOf θ)
@@ -23,30 +23,38 @@ pub direction-entries : {α δ : Turn} → UnitTurn α → UnitTurn δ → Entri
 unfolding directionOf
 direction-entries hα hδ = record { e₀ = small-scaled (hδ .cos) (hα .cos); e₁ = small-scaled (hδ .cos) (hα .sin); e₂ = hδ .sin }
 
+-- the entries of a row P or Q: two of at most two, and one of at most one
+pub record Row (v : List ℤ) : Type 0 where
+  pub e₀ : Within (at v 0) (2 * one)
+  pub e₁ : Within (at v 1) (2 * one)
+  pub e₂ : Small (at v 2)
+
+pub row-entries : {v : List ℤ} → Row v → Entries v (2 * one)
+row-entries h = record { e₀ = h .e₀; e₁ = h .e₁; e₂ = wider (h .e₂) (lit≤ tt) }
+
+-- so the sum of its entries each ∘ a direction's is at most five
+pub row-dot : {v e : List ℤ} → Row v → Entries e one → Within (dotOf v e) (5 * one)
+unfolding dotOf
+row-dot h k =
+    add-within
+    (add-within (scaled-within (2 * one) (h .e₀) (k .e₀) (lit≤ tt)) (scaled-within (2 * one) (h .e₁) (k .e₁) (lit≤ tt)))
+    (small-scaled (h .e₂) (k .e₂))
+
 module _ {ω Ω i : Turn} (hω : UnitTurn ω) (hΩ : UnitTurn Ω) (hi : UnitTurn i) where
-  pub rowP-entries : Entries (rowP ω Ω i) (2 * one)
+  pub p-row : Row (rowP ω Ω i)
   unfolding rowP
-  rowP-entries =
+  p-row =
       record {
         e₀ = sub-within (small-scaled (hω .cos) (hΩ .cos)) (small-scaled (small-scaled (hω .sin) (hΩ .sin)) (hi .cos));
         e₁ = add-within (small-scaled (hω .cos) (hΩ .sin)) (small-scaled (small-scaled (hω .sin) (hΩ .cos)) (hi .cos));
-        e₂ = wider (small-scaled (hω .sin) (hi .sin)) (lit≤ tt);
+        e₂ = small-scaled (hω .sin) (hi .sin);
       }
 
-  pub rowQ-entries : Entries (rowQ ω Ω i) (2 * one)
+  pub q-row : Row (rowQ ω Ω i)
   unfolding rowQ
-  rowQ-entries =
+  q-row =
       record {
         e₀ = sub-within (neg-within (small-scaled (hω .sin) (hΩ .cos))) (small-scaled (small-scaled (hω .cos) (hΩ .sin)) (hi .cos));
         e₁ = add-within (neg-within (small-scaled (hω .sin) (hΩ .sin))) (small-scaled (small-scaled (hω .cos) (hΩ .cos)) (hi .cos));
-        e₂ = wider (small-scaled (hω .cos) (hi .sin)) (lit≤ tt);
+        e₂ = small-scaled (hω .cos) (hi .sin);
       }
-
-  -- rows P and Q of the rotation
-  pub p-entries : Entries (getD (rotationOf ω Ω i) 0 []) (2 * one)
-  unfolding rotationOf
-  p-entries = rowP-entries
-
-  pub q-entries : Entries (getD (rotationOf ω Ω i) 1 []) (2 * one)
-  unfolding rotationOf
-  q-entries = rowQ-entries

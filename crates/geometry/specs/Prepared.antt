@@ -2,7 +2,7 @@
 use mathlib.Core.List.{List}
 use Prim.Native.Nat.{_*_, _-_, _^_}
 use lib.IntN.{ℤ, pos}
-use Rattle.fixed.specs.Scaled.{one, _∘_, dotOf}
+use Rattle.fixed.specs.Scaled.{_∘_, dotOf}
 use Rattle.fixed.specs.Root.{rootOf}
 use Rattle.angle.specs.Turn.{addOf}
 use Rattle.sine.specs.Sine.{sineOf}

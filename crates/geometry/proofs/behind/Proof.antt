@@ -10,7 +10,7 @@ use lib.IntN.{ℤ, pos, negsuc, natAbs, _+ℤ_, _-ℤ_, _*ℤ_, negℤ}
 use lib.Signed.{ltZ}
 use Rattle.fixed.specs.Within.{Within, Is}
 use Rattle.fixed.proofs.Machine.{loc, fit, held, operand, product, sum, negation, told}
-use Rattle.geometry.specs.Ready.{longest, widest, deepest}
+use Rattle.geometry.specs.Ready.{longest, deepest}
 use Rattle.geometry.specs.Hidden.{behindOf}
 use Rattle.geometry.proofs.behind.Statement.{statement}
 use Rattle.geometry.proofs.behind.Tie as tie

@@ -1,9 +1,10 @@
 -- `geometry::depth` meets its contract: each product, and their sum, fits.
+use borrow.Author.Needs.{needs}
 use Prim.Native.Nat.{_*_}
 use lib.IntN.{_+ℤ_}
 use Rattle.fixed.specs.Scaled.{_∘_}
 use Rattle.fixed.specs.Within.{Is}
-use Rattle.fixed.proofs.Machine.{loc, fit, held, operand, product, sum, scaled-is}
+use Rattle.fixed.proofs.Machine.{bounded, loc, fit, held, operand, sum, scaled-is}
 use Rattle.geometry.specs.Ready.{longest, deepest}
 use Rattle.geometry.specs.Hidden.{depthOf}
 use Rattle.geometry.proofs.depth.Statement.{statement}
@@ -18,10 +19,10 @@ whole c =
     (held (scaled-is (5 * longest) (c .scaled2 .ensures) (operand (s .pre .y) tt) (operand (s .pre .orbit .body .q) tt) tt) tt)
 
 scaled-requires : tie.Need-scaled-requires
-scaled-requires c κs = let s = c .before .before .before in fit (product (operand (s .pre .x) tt) (operand (s .pre .orbit .body .p) tt)) tt
+scaled-requires c κs = search (needs, bounded)
 
 scaled-requires-2 : tie.Need-scaled-requires-2
-scaled-requires-2 c κs = let s = c .before .before .before .before .before .before in fit (product (operand (s .pre .y) tt) (operand (s .pre .orbit .body .q) tt)) tt
+scaled-requires-2 c κs = search (needs, bounded)
 
 add-result : tie.Need-add-result
 add-result c = fit (whole c) tt

@@ -1,12 +1,10 @@
 -- `geometry::hidden` meets its contract: the place, its d, and the test of them.
-use mathlib.Core.Path.{_≡_, ap, _∙_}
+use mathlib.Core.Path.{_≡_, _∙_}
 use lib.IntN.{ℤ}
-use Rattle.fixed.proofs.Machine.{loc, got}
+use Rattle.fixed.proofs.Machine.{got}
 use Rattle.geometry.specs.declared.Place.{Place}
 use Rattle.geometry.specs.declared.Orbit.{Orbit}
-use Rattle.geometry.specs.Ready.{deepest}
 use Rattle.geometry.specs.Hidden.{depthOf, behindOf, hiddenAt}
-use Rattle.fixed.specs.Within.{Within}
 use Rattle.geometry.proofs.Bounds.{placed, depth-within}
 use borrow.Author.Needs.{needs}
 use Rattle.geometry.proofs.hidden.Statement.{statement}

@@ -1,6 +1,5 @@
 -- `geometry::up` meets its contract: the sum of three products of at most one fits.
 use mathlib.Core.Path.{_≡_, ap, _∙_}
-use mathlib.Core.Bool.{Bool}
 use mathlib.Core.List.{List}
 use Prim.Native.Nat.{_+_}
 use lib.Dec.{lit≤}

@@ -1,6 +1,5 @@
 -- `geometry::zenith` meets its contract: it is the direction of τ at the latitude.
 use mathlib.Core.Path.{ap, _∙_}
-use Prim.Native.Nat.{ℕ}
 use Rattle.angle.specs.Turn.{addOf}
 use Rattle.rotation.specs.declared.Turn.{Turn}
 use Rattle.rotation.specs.Rotation.{turnOf, directionOf}

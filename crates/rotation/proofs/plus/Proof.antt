@@ -1,5 +1,4 @@
 -- `rotation::plus` meets its contract: the sum of two numbers of at most one fits.
-use mathlib.Core.Path.{_≡_}
 use Prim.Native.Nat.{_*_}
 use lib.IntN.{_+ℤ_}
 use borrow.Author.Needs.{needs}

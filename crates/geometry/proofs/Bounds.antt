@@ -1,7 +1,7 @@
 -- Bounds, part by part: what is fixed for a job is as small as the whole numbers make it, and so is a place, d, and the station's rise.
 use mathlib.Core.Path.{_≡_, sym, subst}
 use mathlib.Core.List.{List}
-use Prim.Native.Nat.{ℕ, _+_, _*_, _-_, _^_}
+use Prim.Native.Nat.{ℕ, _+_, _*_, _-_, _^_, _≤_}
 use native.Mathlib.Nat.{mul-le-mul}
 use native.Mathlib.Omega.{arith}
 use lib.Dec.{lit≤}
@@ -28,13 +28,13 @@ use Rattle.geometry.specs.Visible.{τOf, zenithOf}
 
 -- ---- what is fixed for a job
 
--- q is at most one
-pub root-small : (e : ℕ) → Small (pos (rootOf (2 ^ 60 - e * e)))
-root-small e = record { within = root-le (2 ^ 60 - e * e) (2 ^ 30) (omega arith) }
+-- a root of at most one squared is at most one: q is
+pub root-small : (n : ℕ) → n ≤ 2 ^ 60 → Small (pos (rootOf n))
+root-small n h = record { within = root-le n one h }
 
 minor-within : {w : Wholes} → Bounded w → Within (minorOf w) longest
 unfolding minorOf
-minor-within {w} h = scaled-within {a = pos (w .axis)} longest (record { within = h .axis }) (root-small (w .eccentricity)) (lit≤ tt)
+minor-within {w} h = scaled-within {a = pos (w .axis)} longest (record { within = h .axis }) (root-small (2 ^ 60 - w .eccentricity * w .eccentricity) (omega arith)) (lit≤ tt)
 
 ellipse-sound : {w : Wholes} → Bounded w → SoundEllipse (ellipseOf w)
 unfolding ellipseOf

@@ -1,4 +1,4 @@
--- When the planet hides the far body (document 01, "Hidden and visible"; source 000: r·E < 0, and |r × E| against the radius rs, its equation (8)).
+-- When the planet hides the far body (document 01, "Hidden and visible"; source 000, equation (8): on the edge E·r = −√(r² − rs²)).
 use mathlib.Core.Bool.{Bool, _&&_}
 use Prim.Native.Nat.{ℕ}
 use lib.IntN.{ℤ, pos, _+ℤ_, _-ℤ_, _*ℤ_}

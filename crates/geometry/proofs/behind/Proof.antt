@@ -10,6 +10,8 @@ use lib.IntN.{ℤ, pos, negsuc, natAbs, _+ℤ_, _-ℤ_, _*ℤ_, negℤ}
 use lib.Signed.{ltZ}
 use Rattle.fixed.specs.Within.{Within, Is}
 use Rattle.fixed.proofs.Machine.{loc, fit, held, operand, product, sum, negation, told}
+use Rattle.geometry.specs.declared.Orbit.{Orbit}
+use Rattle.geometry.specs.declared.Place.{Place}
 use Rattle.geometry.specs.Ready.{longest, deepest}
 use Rattle.geometry.specs.Hidden.{behindOf}
 use Rattle.geometry.proofs.behind.Statement.{statement}
@@ -34,9 +36,20 @@ across : (a b c : ℕ) → ltZ (pos a -ℤ pos b) (pos c) ≡ ltb a (c + b)
 across a zero c = rw (add-zero a, add-zero c)
 across a (suc k) c = taken-less a k c (ltb a (suc k)) refl
 
-other-side : (x y d : ℤ) (r : ℕ) → ltZ d (pos 0) ≡ true
-    → ltb (natAbs x * natAbs x + natAbs y * natAbs y) (r + natAbs d * natAbs d) ≡ (ltZ d (pos 0) && ltZ (x *ℤ x +ℤ y *ℤ y -ℤ d *ℤ d) (pos r))
-other-side x y d r e = rw (e, square x, square y, square d) (sym (across (natAbs x * natAbs x + natAbs y * natAbs y) (natAbs d * natAbs d) r))
+moved : (x y d : ℤ) (r : ℕ) → ltb (natAbs x * natAbs x + natAbs y * natAbs y) (r + natAbs d * natAbs d) ≡ ltZ (x *ℤ x +ℤ y *ℤ y -ℤ d *ℤ d) (pos r)
+moved x y d r = rw (square x, square y, square d) (sym (across (natAbs x * natAbs x + natAbs y * natAbs y) (natAbs d * natAbs d) r))
+
+-- the answer on either side of the planet
+dark-side : (o : Orbit) (a : Place) (d : ℤ) → ltZ d (pos 0) ≡ true
+    → ltb (natAbs (a .x) * natAbs (a .x) + natAbs (a .y) * natAbs (a .y)) (o .ellipse .radius2 + natAbs d * natAbs d) ≡ behindOf o a d
+unfolding behindOf
+dark-side o a d e =
+    moved (a .x) (a .y) d (o .ellipse .radius2)
+    ∙ ap (λ (b : Bool). b && ltZ (a .x *ℤ a .x +ℤ a .y *ℤ a .y -ℤ d *ℤ d) (pos (o .ellipse .radius2))) (sym e)
+
+lit-side : (o : Orbit) (a : Place) (d : ℤ) → ltZ d (pos 0) ≡ false → false ≡ behindOf o a d
+unfolding behindOf
+lit-side o a d e = ap (λ (b : Bool). b && ltZ (a .x *ℤ a .x +ℤ a .y *ℤ a .y -ℤ d *ℤ d) (pos (o .ellipse .radius2))) (sym e)
 
 test : {s m s' m' : ℕ} (r : ℕ) → s ≡ s' → m ≡ m' → ltb s (r + m * m) ≡ ltb s' (r + m' * m')
 test r e f = cc
@@ -69,7 +82,9 @@ abbrev start : tie.After-struct-told2 → tie.Start
 start c = inside c .before
 
 negative : (c : tie.Then1) → ltZ (c .before .args .d) (pos 0) ≡ true
-negative c = told (pos 0) (c .before .fits .d) (c .if1 .taken)
+negative c =
+    let said : ltZ (loc (c .before .args .d)) (pos 0) ≡ true = c .if1 .taken in
+    told (pos 0) (c .before .fits .d) said
 
 sub-deep : tie.Need-sub-deep
 sub-deep c = fit (negation (operand (c .before .pre .1) tt)) tt
@@ -99,16 +114,16 @@ add-result c = let s = start (c .before) in
     (record { fits = omega (arith, s .pre .0 .orbit .ellipse .radius, mul-le-mul (s .pre .1 .within) (s .pre .1 .within)) })
 
 returns : tie.Need-returns
-unfolding behindOf
-returns c = let s = start (c .before) in
+returns c =
+    let s = start (c .before) in
     let below = negative (inside (c .before)) in
-    let a = s .args .a in
     test (s .args .o .ellipse .radius2) (ap natAbs (plane-is (s .pre .0 .x) (s .pre .0 .y))) (ap natAbs (deep-is (s .pre .1) below))
-    ∙ other-side (a .x) (a .y) (s .args .d) (s .args .o .ellipse .radius2) below
+    ∙ dark-side (s .args .o) (s .args .a) (s .args .d) below
 
 returns-2 : tie.Need-returns-2
-unfolding behindOf
-returns-2 c = rw (told (pos 0) (c .before .fits .d) (c .if1 .left))
+returns-2 c =
+    let s = c .before in
+    lit-side (s .args .o) (s .args .a) (s .args .d) (told (pos 0) (s .fits .d) (c .if1 .left))
 
 pub behind-spec : {M : Type 1} → statement M
 behind-spec =

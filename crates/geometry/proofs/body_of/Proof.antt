@@ -1,8 +1,9 @@
 -- `geometry::body_of` meets its contract, field by field: the rows' entries are within two, and E's within one.
 use mathlib.Core.Path.{_≡_, ap, _∙_}
 use mathlib.Core.List.{List, []}
-use Prim.Native.Nat.{_*_}
-use lib.Dec.{lit≤}
+use Prim.Native.Nat.{ℕ, zero, suc, _*_, _<_}
+use native.Mathlib.Omega.{arith}
+use lib.Dec.{lit≤, lit<}
 use lib.IntN.{ℤ}
 use lib.ListN.{getD}
 use Rattle.fixed.specs.Scaled.{one, dotOf}
@@ -19,13 +20,12 @@ use borrow.Author.Needs.{needs}
 use Rattle.geometry.proofs.body_of.Statement.{statement}
 use Rattle.geometry.proofs.body_of.Tie as tie
 
-p-entries : (w : Wholes) → Entries (getD (rotationFor w) 0 []) (2 * one)
+-- the entries of rows P and Q
+rows-within : (w : Wholes) (k : ℕ) → k < 2 → Entries (getD (rotationFor w) k []) (2 * one)
 unfolding rotationFor rotationOf
-p-entries w = row-entries (p-row (turn-unit _) (turn-unit _) (turn-unit _))
-
-q-entries : (w : Wholes) → Entries (getD (rotationFor w) 1 []) (2 * one)
-unfolding rotationFor rotationOf
-q-entries w = row-entries (q-row (turn-unit _) (turn-unit _) (turn-unit _))
+rows-within w zero h = row-entries (p-row (turn-unit _) (turn-unit _) (turn-unit _))
+rows-within w (suc zero) h = row-entries (q-row (turn-unit _) (turn-unit _) (turn-unit _))
+rows-within w (suc (suc k)) h = absurd (omega arith)
 
 dots : {p q d e : List ℤ} → p ≡ q → d ≡ e → dotOf p d ≡ dotOf q e
 dots f g = cc
@@ -43,14 +43,14 @@ array-copy-out-dot : tie.Need-array-copy-out-dot
 array-copy-out-dot c = search needs
 
 dot-requires : tie.Need-dot-requires
-dot-requires c κs = let m = c .before .before in (rw (m .rotation-of .ensures) (p-entries _), rw (c .before .toward .ensures) (wider-entries (toward-entries _) (lit≤ tt)))
+dot-requires c κs = let m = c .before .before in (rw (m .rotation-of .ensures) (rows-within _ _ (lit< tt)), rw (c .before .toward .ensures) (wider-entries (toward-entries _) (lit≤ tt)))
 
 array-copy-out-dot-2 : tie.Need-array-copy-out-dot-2
 array-copy-out-dot-2 c = search needs
 
 dot-requires-2 : tie.Need-dot-requires-2
 dot-requires-2 c κs = let e = c .before .before .before in
-    (rw (e .before .rotation-of .ensures) (q-entries _), rw (e .toward .ensures) (wider-entries (toward-entries _) (lit≤ tt)))
+    (rw (e .before .rotation-of .ensures) (rows-within _ _ (lit< tt)), rw (e .toward .ensures) (wider-entries (toward-entries _) (lit≤ tt)))
 
 returns : tie.Need-returns
 unfolding bodyOf rotationFor rotationOf

@@ -15,7 +15,7 @@ use Rattle.geometry.proofs.minor.Statement.{statement}
 use Rattle.geometry.proofs.minor.Tie as tie
 
 q-small : (c : tie.After-whole-root) → Small (pos (c .whole-root .result))
-q-small c = rw (c .whole-root .ensures) (root-small (c .before .before .args .w .eccentricity))
+q-small c = rw (c .whole-root .ensures) (root-small _ (omega arith))
 
 cast-e : tie.Need-cast-e
 cast-e c = search needs

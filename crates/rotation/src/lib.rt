@@ -1,6 +1,5 @@
 // Turns, directions, and the rotation to the orbit's own axes. `t` is the sine table, lent.
 ghost use mathlib.Core.Path.{_≡_};
-ghost use lib.IntN.{negℤ, _+ℤ_, _-ℤ_};
 ghost use Rattle.fixed.specs.Scaled.{one, _∘_};
 ghost use Rattle.fixed.specs.Within.{Small, Is};
 ghost use Rattle.sine.specs.Sine.{sines};
@@ -24,28 +23,12 @@ pub fn turn_of(t: &[u32], theta: Angle) -> Turn
     Turn { cos, sin }
 }
 
-// x + c∘d∘e, the product of three taken from the left.
-fn plus(x: i64, c: i64, d: i64, e: i64) -> i64
-    requires { ⌜ (Small x) × (Small c) × (Small d) × (Small e) ⌝ }
-    ensures { λ r. ⌜ r ≡ x +ℤ c ∘ d ∘ e ⌝ }
+// c∘d∘e, taken from the left.
+fn triple(c: i64, d: i64, e: i64) -> i64
+    requires { ⌜ (Small c) × (Small d) × (Small e) ⌝ }
+    ensures { λ r. ⌜ Is r (c ∘ d ∘ e) one ⌝ }
 {
-    x + unit(unit(c, d), e)
-}
-
-// x − c∘d∘e, the product of three taken from the left.
-fn minus(x: i64, c: i64, d: i64, e: i64) -> i64
-    requires { ⌜ (Small x) × (Small c) × (Small d) × (Small e) ⌝ }
-    ensures { λ r. ⌜ r ≡ x -ℤ c ∘ d ∘ e ⌝ }
-{
-    x - unit(unit(c, d), e)
-}
-
-// −(a∘b), negated after the floor.
-fn minus_unit(a: i64, b: i64) -> i64
-    requires { ⌜ (Small a) × (Small b) ⌝ }
-    ensures { λ r. ⌜ Is r (negℤ (a ∘ b)) one ⌝ }
-{
-    -unit(a, b)
+    unit(unit(c, d), e)
 }
 
 // Row P, toward the periapsis.
@@ -54,8 +37,8 @@ fn row_p(peri: Turn, node: Turn, incl: Turn) -> [i64; 3]
     ensures { λ r. ⌜ r ≡ rowP peri node incl ⌝ }
 {
     [
-        minus(unit(peri.cos, node.cos), peri.sin, node.sin, incl.cos),
-        plus(unit(peri.cos, node.sin), peri.sin, node.cos, incl.cos),
+        unit(peri.cos, node.cos) - triple(peri.sin, node.sin, incl.cos),
+        unit(peri.cos, node.sin) + triple(peri.sin, node.cos, incl.cos),
         unit(peri.sin, incl.sin),
     ]
 }
@@ -66,8 +49,8 @@ fn row_q(peri: Turn, node: Turn, incl: Turn) -> [i64; 3]
     ensures { λ r. ⌜ r ≡ rowQ peri node incl ⌝ }
 {
     [
-        minus(minus_unit(peri.sin, node.cos), peri.cos, node.sin, incl.cos),
-        plus(minus_unit(peri.sin, node.sin), peri.cos, node.cos, incl.cos),
+        -unit(peri.sin, node.cos) - triple(peri.cos, node.sin, incl.cos),
+        -unit(peri.sin, node.sin) + triple(peri.cos, node.cos, incl.cos),
         unit(peri.cos, incl.sin),
     ]
 }
@@ -79,7 +62,7 @@ fn row_w(node: Turn, incl: Turn) -> [i64; 3]
 {
     [
         unit(node.sin, incl.sin),
-        minus_unit(node.cos, incl.sin),
+        -unit(node.cos, incl.sin),
         incl.cos,
     ]
 }

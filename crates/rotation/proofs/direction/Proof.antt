@@ -2,7 +2,7 @@
 use borrow.Author.Needs.{needs}
 use Rattle.fixed.proofs.Machine.{back}
 use Rattle.rotation.specs.Rotation.{directionOf}
-use Rattle.rotation.proofs.Stored.{stored, times, row}
+use Rattle.rotation.proofs.Stored.{two, row}
 use Rattle.rotation.proofs.direction.Statement.{statement}
 use Rattle.rotation.proofs.direction.Tie as tie
 
@@ -20,8 +20,8 @@ returns c =
     let α = s .pre .0 in
     let δ = s .pre .1 in
     row
-    (stored (first .unit .ensures) (times (back (δ .cos) tt) (back (α .cos) tt)))
-    (stored (c .before .unit2 .ensures) (times (back (δ .cos) tt) (back (α .sin) tt)))
+    (two (first .unit .ensures) (δ .cos) (α .cos) .is)
+    (two (c .before .unit2 .ensures) (δ .cos) (α .sin) .is)
     (back (δ .sin) tt)
 
 pub direction-spec : {M : Type 1} → statement M

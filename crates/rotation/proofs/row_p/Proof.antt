@@ -1,46 +1,56 @@
 -- `rotation::row_p` meets its contract, entry by entry: what is read back is what was stored.
-use mathlib.Core.Path.{_∙_}
-use borrow.Author.Needs.{needs}
-use Rattle.fixed.proofs.Machine.{back, got}
+use Rattle.fixed.proofs.Machine.{bounded, held, sum, difference}
 use Rattle.rotation.specs.Rotation.{rowP}
-use Rattle.rotation.proofs.Stored.{stored, times, plus-three, minus-three, row}
+use Rattle.rotation.proofs.Stored.{two, three, row}
+use borrow.Author.Needs.{needs}
 use Rattle.rotation.proofs.row_p.Statement.{statement}
 use Rattle.rotation.proofs.row_p.Tie as tie
 
 unit-requires : tie.Need-unit-requires
 unit-requires c κs = search needs
 
-minus-requires : tie.Need-minus-requires
-minus-requires c κs = search needs
+triple-requires : tie.Need-triple-requires
+triple-requires c κs = search needs
+
+sub-t6 : tie.Need-sub-t6
+sub-t6 c = search (needs, bounded)
 
 unit-requires-2 : tie.Need-unit-requires-2
 unit-requires-2 c κs = search needs
 
-plus-requires : tie.Need-plus-requires
-plus-requires c κs = search needs
+triple-requires-2 : tie.Need-triple-requires-2
+triple-requires-2 c κs = search needs
+
+add-t9 : tie.Need-add-t9
+add-t9 c = search (needs, bounded)
 
 unit-requires-3 : tie.Need-unit-requires-3
 unit-requires-3 c κs = search needs
 
 returns : tie.Need-returns
 unfolding rowP
-returns c =
-    let second = c .before .before .before in
-    let inner = second .before .before .before .before in
-    let first = inner .before .before .before in
-    let start = first .before .before .before .before in
-    let s = start .before .before .before in
+returns c = let after₂ = c .before .before .before in
+    let before₂ = after₂ .before .before .before .before in
+    let after₁ = before₂ .before .before .before in
+    let before₁ = after₁ .before .before .before .before in
+    let s = before₁ .before .before .before in
     let ω = s .pre .0 in
     let Ω = s .pre .1 in
     let i = s .pre .2 in
     row
-    (got (first .minus .result) (first .minus .ok)
-    ∙ minus-three (first .minus .ensures) (stored (start .unit .ensures) (times (back (ω .cos) tt) (back (Ω .cos) tt))) (back (ω .sin) tt) (back (Ω .sin) tt) (back (i .cos) tt))
-    (got (second .plus .result) (second .plus .ok)
-    ∙ plus-three (second .plus .ensures) (stored (inner .unit2 .ensures) (times (back (ω .cos) tt) (back (Ω .sin) tt))) (back (ω .sin) tt) (back (Ω .cos) tt) (back (i .cos) tt))
-    (stored (c .unit3 .ensures) (times (back (ω .sin) tt) (back (i .sin) tt)))
+    (held (difference (two (before₁ .unit .ensures) (ω .cos) (Ω .cos)) (three (after₁ .triple .ensures) (ω .sin) (Ω .sin) (i .cos))) tt .is)
+    (held (sum (two (before₂ .unit2 .ensures) (ω .cos) (Ω .sin)) (three (after₂ .triple2 .ensures) (ω .sin) (Ω .cos) (i .cos))) tt .is)
+    (two (c .unit3 .ensures) (ω .sin) (i .sin) .is)
 
 pub row-p-spec : {M : Type 1} → statement M
 row-p-spec =
     tie.close
-    (tie.spec unit-requires minus-requires unit-requires-2 plus-requires unit-requires-3 returns)
+    (tie.spec
+    unit-requires
+    triple-requires
+    sub-t6
+    unit-requires-2
+    triple-requires-2
+    add-t9
+    unit-requires-3
+    returns)

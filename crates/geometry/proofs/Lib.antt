@@ -1,0 +1,4 @@
+-- The laws that the proofs of `geometry`, and of the crates above it, cite.
+pub mod Bounds
+pub mod Laws
+pub mod Only

@@ -1,0 +1,37 @@
+-- The contracts of the public functions, as the check reads them off the source, leave one answer only: each is an equation.
+use Rattle.determined.specs.Determined.{OneResult, by-value}
+use Rattle.geometry.proofs.prepare.Kinds as prepare
+use Rattle.geometry.proofs.prepare.Reads as prepare-reads
+use Rattle.geometry.proofs.settles.Kinds as settles
+use Rattle.geometry.proofs.settles.Reads as settles-reads
+use Rattle.geometry.proofs.place_of.Kinds as place-of
+use Rattle.geometry.proofs.place_of.Reads as place-of-reads
+use Rattle.geometry.proofs.depth.Kinds as depth
+use Rattle.geometry.proofs.depth.Reads as depth-reads
+use Rattle.geometry.proofs.hidden.Kinds as hidden
+use Rattle.geometry.proofs.hidden.Reads as hidden-reads
+use Rattle.geometry.proofs.up.Kinds as up
+use Rattle.geometry.proofs.up.Reads as up-reads
+use Rattle.geometry.proofs.answer.Kinds as answer
+use Rattle.geometry.proofs.answer.Reads as answer-reads
+
+pub prepare-only : OneResult 1 prepare.ps prepare.r prepare-reads.Post
+prepare-only κs a x y s t p q = by-value _ p q
+
+pub settles-only : OneResult 1 settles.ps settles.r settles-reads.Post
+settles-only κs a x y s t p q = by-value _ p q
+
+pub place-of-only : OneResult 1 place-of.ps place-of.r place-of-reads.Post
+place-of-only κs a x y s t p q = by-value _ p q
+
+pub depth-only : OneResult 0 depth.ps depth.r depth-reads.Post
+depth-only κs a x y s t p q = by-value _ p q
+
+pub hidden-only : OneResult 1 hidden.ps hidden.r hidden-reads.Post
+hidden-only κs a x y s t p q = by-value _ p q
+
+pub up-only : OneResult 1 up.ps up.r up-reads.Post
+up-only κs a x y s t p q = by-value _ p q
+
+pub answer-only : OneResult 1 answer.ps answer.r answer-reads.Post
+answer-only κs a x y s t p q = by-value _ p q

@@ -1,0 +1,37 @@
+-- When the station sees the planet, and the answer to a question (document 01, "Hidden and visible").
+use mathlib.Core.Bool.{Bool, _&&_, not, cond}
+use mathlib.Core.List.{List}
+use Prim.Native.Nat.{ℕ}
+use lib.Dec.{eqb}
+use lib.IntN.{ℤ, negℤ}
+use lib.Signed.{leZ}
+use Rattle.fixed.specs.Scaled.{dotOf}
+use Rattle.angle.specs.Turn.{addOf}
+use Rattle.kepler.specs.Kepler.{phaseOf}
+use Rattle.rotation.specs.Rotation.{turnOf, directionOf}
+use Rattle.geometry.specs.declared.Orbit.{Orbit}
+use Rattle.geometry.specs.Hidden.{hiddenAt}
+
+-- in ms
+abbrev pub day : ℕ
+day = 86400000
+
+-- τ = longitude + Greenwich + floor((t mod 86,400,000)·2^32/86,400,000), modulo 2^32: one turn a day (source 002, equation (7))
+unfoldable pub τOf : Orbit → ℕ → ℕ
+τOf o t = addOf (o .station .meridian .units) (phaseOf day t)
+
+-- u = (cos lat∘cos τ, cos lat∘sin τ, sin lat)
+unfoldable pub zenithOf : Orbit → ℕ → List ℤ
+zenithOf o t = directionOf (turnOf (τOf o t)) (o .station .latitude)
+
+-- −(ux∘Ex + uy∘Ey + uz∘Ez) ≥ sine of field 13. Equality is up (source 002, equation (6): occulted when less)
+unfoldable pub upAt : Orbit → ℕ → Bool
+upAt o t = leZ (o .station .least) (negℤ (dotOf (zenithOf o t) (o .body .toward)))
+
+-- visible: up and not hidden
+unfoldable pub visibleAt : Orbit → ℕ → Bool
+visibleAt o t = upAt o t && not (hiddenAt o t)
+
+-- question 1 is hidden and 2 visible; refusal 8 is for any other
+unfoldable pub answerAt : Orbit → ℕ → ℕ → Bool
+answerAt o question t = cond (eqb question 1) (hiddenAt o t) (visibleAt o t)

@@ -13,7 +13,7 @@ use lib.Ieee.Positive.{positive, between, mul-mono}
 use Rattle.nearest.specs.Nearest.{decimal, number}
 use Rattle.elements.specs.Field.{axisIn, eccentricityIn}
 use Rattle.elements.specs.Closest.{closestOf}
-use Rattle.elements.proofs.Range.{NoLarger, eccentricity-range}
+use Rattle.elements.proofs.Range.{Ranged, eccentricity-range}
 use Rattle.elements.proofs.Sterbenz.{less-is}
 
 -- no less than 1/25, and no more than 1
@@ -40,11 +40,11 @@ less-from-to : (e : Float) → T (eccentricityIn e) → FromTo (sub binary64 (nu
 unfolding decimal round
 less-from-to e t = go e (eccentricity-range e t) (and-l (le (number 0) e) (le e (decimal 95 100)) t)
   where
-    go : (e : Float) → NoLarger e (decimal 95 100) → T (le (number 0) e) → FromTo (sub binary64 (fin false 1 (pos 0)) e)
-    go nan n l = absurd (n .finite-is)
-    go (inf s) n l = absurd (n .finite-is)
+    go : (e : Float) → Ranged 0 e (decimal 95 100) → T (le (number 0) e) → FromTo (sub binary64 (fin false 1 (pos 0)) e)
+    go nan n l = absurd (n .up-to .finite-is)
+    go (inf s) n l = absurd (n .up-to .finite-is)
     go (fin false m x) n l =
-        let size : m * up x * 4503599627370496 ≤ 4278419646001971 * down x = n .size-is in
+        let size : m * up x * 4503599627370496 ≤ 4278419646001971 * down x = n .no-larger in
         subst FromTo (sym (less-is m x (omega arith))) (rounded-from-to (down x - m * up x) (down x) (down-pos x) (omega arith) (omega arith))
     go (fin true m x) n l =
         subst FromTo (sym (less-minus-zero m x (no-size m x l))) (rounded-from-to (down x) (down x) (down-pos x) (omega arith) (omega arith))

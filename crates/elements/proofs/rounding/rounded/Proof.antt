@@ -3,7 +3,7 @@ use mathlib.Core.Path.{_≡_, ap}
 use Prim.Native.Nat.{ℕ}
 use Rattle.angle.specs.declared.Angle.{Angle}
 use Rattle.elements.specs.Rounding.{wholesOf}
-use Rattle.elements.proofs.Range.{axis-small, eccentricity-small, inclination-small, turn-small, period-small, radius-small, latitude-small, elevation-small}
+use Rattle.elements.proofs.Range.{axis-range, eccentricity-range, inclination-range, turn-range, period-range, radius-range, latitude-range, elevation-range}
 use Rattle.elements.proofs.rounding.rounded.Statement.{statement}
 use Rattle.elements.proofs.rounding.rounded.Tie as tie
 
@@ -12,43 +12,43 @@ an-angle : {a : Angle} {u : ℕ} → a .units ≡ u → a ≡ record { units = u
 an-angle e = ap (λ (u : ℕ). record { units = u }) e
 
 metres-requires : tie.Need-metres-requires
-metres-requires c κs = axis-small (c .args .e .axis) (c .pre .axis-in)
+metres-requires c κs = axis-range (c .args .e .axis) (c .pre .axis-in) .up-to
 
 eccentricity-requires : tie.Need-eccentricity-requires
-eccentricity-requires c κs = eccentricity-small (c .before .args .e .eccentricity) (c .before .pre .eccentricity-in)
+eccentricity-requires c κs = eccentricity-range (c .before .args .e .eccentricity) (c .before .pre .eccentricity-in) .up-to
 
 from-degrees-requires : tie.Need-from-degrees-requires
-from-degrees-requires c κs = inclination-small (c .before .before .args .e .inclination) (c .before .before .pre .inclination-in)
+from-degrees-requires c κs = inclination-range (c .before .before .args .e .inclination) (c .before .before .pre .inclination-in) .up-to
 
 from-degrees-requires-2 : tie.Need-from-degrees-requires-2
-from-degrees-requires-2 c κs = turn-small (c .before .before .before .args .e .node) (c .before .before .before .pre .node-in)
+from-degrees-requires-2 c κs = turn-range (c .before .before .before .args .e .node) (c .before .before .before .pre .node-in) .up-to
 
 from-degrees-requires-3 : tie.Need-from-degrees-requires-3
-from-degrees-requires-3 c κs = turn-small (c .before .before .before .before .args .e .periapsis) (c .before .before .before .before .pre .periapsis-in)
+from-degrees-requires-3 c κs = turn-range (c .before .before .before .before .args .e .periapsis) (c .before .before .before .before .pre .periapsis-in) .up-to
 
 milliseconds-requires : tie.Need-milliseconds-requires
-milliseconds-requires c κs = period-small (c .before .before .before .before .before .args .e .period) (c .before .before .before .before .before .pre .period-in)
+milliseconds-requires c κs = period-range (c .before .before .before .before .before .args .e .period) (c .before .before .before .before .before .pre .period-in) .up-to
 
 metres-requires-2 : tie.Need-metres-requires-2
-metres-requires-2 c κs = radius-small (c .before .before .before .before .before .before .args .e .radius) (c .before .before .before .before .before .before .pre .radius-in)
+metres-requires-2 c κs = radius-range (c .before .before .before .before .before .before .args .e .radius) (c .before .before .before .before .before .before .pre .radius-in) .up-to
 
 from-degrees-requires-4 : tie.Need-from-degrees-requires-4
-from-degrees-requires-4 c κs = turn-small (c .before .before .before .before .before .before .before .args .e .ascension) (c .before .before .before .before .before .before .before .pre .ascension-in)
+from-degrees-requires-4 c κs = turn-range (c .before .before .before .before .before .before .before .args .e .ascension) (c .before .before .before .before .before .before .before .pre .ascension-in) .up-to
 
 from-degrees-requires-5 : tie.Need-from-degrees-requires-5
-from-degrees-requires-5 c κs = latitude-small (c .before .before .before .before .before .before .before .before .args .e .declination) (c .before .before .before .before .before .before .before .before .pre .declination-in)
+from-degrees-requires-5 c κs = latitude-range (c .before .before .before .before .before .before .before .before .args .e .declination) (c .before .before .before .before .before .before .before .before .pre .declination-in) .up-to
 
 from-degrees-requires-6 : tie.Need-from-degrees-requires-6
-from-degrees-requires-6 c κs = latitude-small (c .before .before .before .before .before .before .before .before .before .args .e .latitude) (c .before .before .before .before .before .before .before .before .before .pre .latitude-in)
+from-degrees-requires-6 c κs = latitude-range (c .before .before .before .before .before .before .before .before .before .args .e .latitude) (c .before .before .before .before .before .before .before .before .before .pre .latitude-in) .up-to
 
 from-degrees-requires-7 : tie.Need-from-degrees-requires-7
-from-degrees-requires-7 c κs = turn-small (c .before .before .before .before .before .before .before .before .before .before .args .e .longitude) (c .before .before .before .before .before .before .before .before .before .before .pre .longitude-in)
+from-degrees-requires-7 c κs = turn-range (c .before .before .before .before .before .before .before .before .before .before .args .e .longitude) (c .before .before .before .before .before .before .before .before .before .before .pre .longitude-in) .up-to
 
 from-degrees-requires-8 : tie.Need-from-degrees-requires-8
-from-degrees-requires-8 c κs = turn-small (c .before .before .before .before .before .before .before .before .before .before .before .args .e .greenwich) (c .before .before .before .before .before .before .before .before .before .before .before .pre .greenwich-in)
+from-degrees-requires-8 c κs = turn-range (c .before .before .before .before .before .before .before .before .before .before .before .args .e .greenwich) (c .before .before .before .before .before .before .before .before .before .before .before .pre .greenwich-in) .up-to
 
 from-degrees-requires-9 : tie.Need-from-degrees-requires-9
-from-degrees-requires-9 c κs = elevation-small (c .before .before .before .before .before .before .before .before .before .before .before .before .args .e .elevation) (c .before .before .before .before .before .before .before .before .before .before .before .before .pre .elevation-in)
+from-degrees-requires-9 c κs = elevation-range (c .before .before .before .before .before .before .before .before .before .before .before .before .args .e .elevation) (c .before .before .before .before .before .before .before .before .before .before .before .before .pre .elevation-in) .up-to
 
 returns : tie.Need-returns
 unfolding wholesOf

@@ -34,7 +34,8 @@ root-small n h = record { within = root-le n one h }
 
 minor-within : {w : Wholes} → Bounded w → Within (minorOf w) longest
 unfolding minorOf
-minor-within {w} h = scaled-within {a = pos (w .axis)} longest (record { within = h .axis }) (root-small (2 ^ 60 - w .eccentricity * w .eccentricity) (omega arith)) (lit≤ tt)
+minor-within {w} h =
+    scaled-within {a = pos (w .axis)} longest (record { within = h .axis }) (root-small (2 ^ 60 - w .eccentricity * w .eccentricity) (omega arith)) (lit≤ tt)
 
 ellipse-sound : {w : Wholes} → Bounded w → SoundEllipse (ellipseOf w)
 unfolding ellipseOf
@@ -70,7 +71,7 @@ orbit-sound {w} h = record { ellipse = ellipse-sound h; body = body-sound w; sta
 
 -- what `prepare` made is ready: the law for callers
 pub prepared : {t : List ℕ} {w : Wholes} {o : Orbit} → t ≡ sines → Bounded w → o ≡ orbitOf w → Ready t o
-prepared {o = o} s h e = record { table = s; orbit = subst SoundOrbit (sym e) (orbit-sound h) }
+prepared s h e = record { table = s; orbit = subst SoundOrbit (sym e) (orbit-sound h) }
 
 -- ---- at an instant
 

@@ -15,7 +15,8 @@ eccentric-requires c κs = search needs
 
 returns : tie.Need-returns
 unfolding anomalyOf
-returns c = let s = c .before .before .before in
+returns c =
+    let s = c .before .before .before in
     c .eccentric .ensures ∙ ap (λ (M : ℕ). keplerOf (s .args .o .ellipse .eccentricity) M) (c .before .mean .ensures)
 
 pub anomaly-spec : {M : Type 1} → statement M

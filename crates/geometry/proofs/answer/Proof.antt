@@ -22,11 +22,15 @@ visible-requires c κs = search needs
 
 returns : tie.Need-returns
 unfolding answerAt
-returns c = let s = c .before .before .before in c .hidden .ensures ∙ first (visibleAt (s .args .o) (s .args .at)) (eq-eqb (s .args .question) 1 (c .before .if1 .taken))
+returns c =
+    let s = c .before .before .before in
+    c .hidden .ensures ∙ first (visibleAt (s .args .o) (s .args .at)) (eq-eqb (s .args .question) 1 (c .before .if1 .taken))
 
 returns-2 : tie.Need-returns-2
 unfolding answerAt
-returns-2 c = let s = c .before .before .before in c .visible .ensures ∙ second (hiddenAt (s .args .o) (s .args .at)) (ne-eqb (s .args .question) 1 (c .before .if1 .left))
+returns-2 c =
+    let s = c .before .before .before in
+    c .visible .ensures ∙ second (hiddenAt (s .args .o) (s .args .at)) (ne-eqb (s .args .question) 1 (c .before .if1 .left))
 
 pub answer-spec : {M : Type 1} → statement M
 answer-spec = tie.close (tie.spec hidden-requires visible-requires returns returns-2)

@@ -102,14 +102,19 @@ add-square : tie.Need-add-square
 add-square c = fit (plane (start c .pre .0 .x) (start c .pre .0 .y)) tt
 
 cast-square : tie.Need-cast-square
-cast-square c = rw (plane-is (start c .pre .0 .x) (start c .pre .0 .y)) (tt, record { fits = omega (arith, mul-le-mul (start c .pre .0 .x .within) (start c .pre .0 .x .within), mul-le-mul (start c .pre .0 .y .within) (start c .pre .0 .y .within)) })
+cast-square c =
+    let x = start c .pre .0 .x in
+    let y = start c .pre .0 .y in
+    rw (plane-is x y) (tt, record { fits = omega (arith, mul-le-mul (x .within) (x .within), mul-le-mul (y .within) (y .within)) })
 
 mul-result : tie.Need-mul-result
-mul-result c = let h = start c .pre .1 in
+mul-result c =
+    let h = start c .pre .1 in
     rw (deep-is h (negative (inside c))) (record { fits = lt-of-le-of-lt (mul-le-mul (h .within) (h .within)) (lit< tt) })
 
 add-result : tie.Need-add-result
-add-result c = let s = start (c .before) in
+add-result c =
+    let s = start (c .before) in
     rw (deep-is (s .pre .1) (negative (inside (c .before))))
     (record { fits = omega (arith, s .pre .0 .orbit .ellipse .radius, mul-le-mul (s .pre .1 .within) (s .pre .1 .within)) })
 

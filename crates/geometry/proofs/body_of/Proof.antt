@@ -30,7 +30,9 @@ rows-within w (suc (suc k)) h = absurd (omega arith)
 dots : {p q d e : List ℤ} → p ≡ q → d ≡ e → dotOf p d ≡ dotOf q e
 dots f g = cc
 
-fields : {p q v w : ℤ} {d e : List ℤ} → p ≡ v → q ≡ w → d ≡ e → _≡_ {A = Body} (record { p = p; q = q; toward = d }) (record { p = v; q = w; toward = e })
+fields : {p q v w : ℤ} {d e : List ℤ} → p ≡ v → q ≡ w → d ≡ e
+    → _≡_ {A = Body} (record { p = p; q = q; toward = d })
+    (record { p = v; q = w; toward = e })
 fields f g h = cc
 
 rotation-of-requires : tie.Need-rotation-of-requires
@@ -43,18 +45,22 @@ array-copy-out-dot : tie.Need-array-copy-out-dot
 array-copy-out-dot c = search needs
 
 dot-requires : tie.Need-dot-requires
-dot-requires c κs = let m = c .before .before in (rw (m .rotation-of .ensures) (rows-within _ _ (lit< tt)), rw (c .before .toward .ensures) (wider-entries (toward-entries _) (lit≤ tt)))
+dot-requires c κs =
+    let m = c .before .before in
+    (rw (m .rotation-of .ensures) (rows-within _ _ (lit< tt)), rw (c .before .toward .ensures) (wider-entries (toward-entries _) (lit≤ tt)))
 
 array-copy-out-dot-2 : tie.Need-array-copy-out-dot-2
 array-copy-out-dot-2 c = search needs
 
 dot-requires-2 : tie.Need-dot-requires-2
-dot-requires-2 c κs = let e = c .before .before .before in
+dot-requires-2 c κs =
+    let e = c .before .before .before in
     (rw (e .before .rotation-of .ensures) (rows-within _ _ (lit< tt)), rw (e .toward .ensures) (wider-entries (toward-entries _) (lit≤ tt)))
 
 returns : tie.Need-returns
 unfolding bodyOf rotationFor rotationOf
-returns c = let first = c .before .before in
+returns c =
+    let first = c .before .before in
     let e = first .before .before in
     let m = e .before .rotation-of .ensures in
     fields

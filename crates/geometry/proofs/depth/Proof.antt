@@ -11,7 +11,9 @@ use Rattle.geometry.proofs.depth.Statement.{statement}
 use Rattle.geometry.proofs.depth.Tie as tie
 
 whole : (c : tie.After-scaled2) → let s = c .before .before .before .before .before .before .before in
-    Is (loc (c .before .before .before .scaled .result) +ℤ loc (c .scaled2 .result)) (s .args .a .x ∘ s .args .o .body .p +ℤ s .args .a .y ∘ s .args .o .body .q) deepest
+    let a = s .args .a in
+    let b = s .args .o .body in
+    Is (loc (c .before .before .before .scaled .result) +ℤ loc (c .scaled2 .result)) (a .x ∘ b .p +ℤ a .y ∘ b .q) deepest
 whole c =
     let s = c .before .before .before .before .before .before .before in
     sum

@@ -11,7 +11,9 @@ use borrow.Author.Needs.{needs}
 use Rattle.geometry.proofs.ellipse_of.Statement.{statement}
 use Rattle.geometry.proofs.ellipse_of.Tie as tie
 
-fields : {a b v w : ℤ} {e p r : ℕ} → a ≡ v → b ≡ w → _≡_ {A = Ellipse} (record { axis = a; eccentricity = e; minor = b; period = p; radius2 = r }) (record { axis = v; eccentricity = e; minor = w; period = p; radius2 = r })
+fields : {a b v w : ℤ} {e p r : ℕ} → a ≡ v → b ≡ w
+    → _≡_ {A = Ellipse} (record { axis = a; eccentricity = e; minor = b; period = p; radius2 = r })
+    (record { axis = v; eccentricity = e; minor = w; period = p; radius2 = r })
 fields e f = cc
 
 cast-t2 : tie.Need-cast-t2
@@ -31,7 +33,8 @@ mul-t6 c = let s = c .before .before .before .before in omega (arith, mul-le-mul
 
 returns : tie.Need-returns
 unfolding ellipseOf
-returns c = let part = c .before .before .minor in
+returns c =
+    let part = c .before .before .minor in
     let s = c .before .before .before .before in
     fields (cast (s .pre .axis) tt .is) (got (part .result) (part .ok) ∙ part .ensures)
 

@@ -20,13 +20,15 @@ depth-requires : tie.Need-depth-requires
 depth-requires c κs = let s = c .before .before in placed (s .args .at) (s .pre) (c .place-of .ensures)
 
 behind-requires : tie.Need-behind-requires
-behind-requires c κs = let s = c .before .before .before in
+behind-requires c κs =
+    let s = c .before .before .before in
     let here = placed (s .args .at) (s .pre) (c .before .place-of .ensures) in
     (here, rw (got (c .depth .result) (c .depth .ok), c .depth .ensures) (depth-within here))
 
 returns : tie.Need-returns
 unfolding hiddenAt
-returns c = let first = c .before .before in
+returns c =
+    let first = c .before .before in
     let s = first .before .before in
     let at-depth = got (c .before .depth .result) (c .before .depth .ok) ∙ c .before .depth .ensures in
     c .behind .ensures ∙ of-place (s .args .o) (first .place-of .ensures) at-depth

@@ -40,7 +40,8 @@ scaled-requires c κs = fit (product (cast (c .before .before .before .pre .axis
 
 returns : tie.Need-returns
 unfolding minorOf
-returns c = let root = c .before .before in
+returns c =
+    let root = c .before .before in
     let s = root .before .before in
     held (scaled-is longest (c .scaled .ensures) (cast (s .pre .axis) tt) (cast (q-small root .within) tt) tt) tt .is
     ∙ ap (λ (q : ℕ). pos (s .args .w .axis) ∘ pos q) (root .whole-root .ensures)

@@ -22,7 +22,8 @@ both e f = cc
 
 -- cos E − e, and sin E, as the machine holds them
 reach-is : (c : tie.After-sine) → let s = c .before .before .before .before .before in
-    Is (loc (c .before .cosine .result) -ℤ toZ w64 (s .args .o .ellipse .eccentricity)) (cosineOf (anomalyOf (s .args .o) (s .args .at)) -ℤ pos (s .args .o .ellipse .eccentricity)) (one + mostEccentric)
+    let e = s .args .o .ellipse .eccentricity in
+    Is (loc (c .before .cosine .result) -ℤ toZ w64 e) (cosineOf (anomalyOf (s .args .o) (s .args .at)) -ℤ pos e) (one + mostEccentric)
 reach-is c =
     let s = c .before .before .before .before .before in
     let E = anomalyOf (s .args .o) (s .args .at) in
@@ -53,16 +54,19 @@ sub-scaled : tie.Need-sub-scaled
 sub-scaled c = fit (reach-is (c .before)) tt
 
 scaled-requires : tie.Need-scaled-requires
-scaled-requires c κs = let s = c .before .before .before .before .before .before .before in
+scaled-requires c κs =
+    let s = c .before .before .before .before .before .before .before in
     fit (product (operand (s .pre .orbit .ellipse .axis) tt) (held (reach-is (c .before .before)) tt)) tt
 
 scaled-requires-2 : tie.Need-scaled-requires-2
-scaled-requires-2 c κs = let s = c .before .before .before .before .before .before .before .before .before in
+scaled-requires-2 c κs =
+    let s = c .before .before .before .before .before .before .before .before .before in
     fit (product (operand (s .pre .orbit .ellipse .minor) tt) (sine-is (c .before .before .before .before))) tt
 
 returns : tie.Need-returns
 unfolding placeOf
-returns c = let first = c .before .before in
+returns c =
+    let first = c .before .before in
     let reads = first .before .before .before in
     let s = reads .before .before .before .before .before in
     both

@@ -9,7 +9,9 @@ use borrow.Author.Needs.{needs}
 use Rattle.geometry.proofs.prepare.Statement.{statement}
 use Rattle.geometry.proofs.prepare.Tie as tie
 
-parts : {l k : Ellipse} {a b : Body} {s r : Station} → l ≡ k → a ≡ b → s ≡ r → _≡_ {A = Orbit} (record { ellipse = l; body = a; station = s }) (record { ellipse = k; body = b; station = r })
+parts : {l k : Ellipse} {a b : Body} {s r : Station} → l ≡ k → a ≡ b → s ≡ r
+    → _≡_ {A = Orbit} (record { ellipse = l; body = a; station = s })
+    (record { ellipse = k; body = b; station = r })
 parts e f g = cc
 
 ellipse-of-requires : tie.Need-ellipse-of-requires

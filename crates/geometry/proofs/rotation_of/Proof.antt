@@ -25,7 +25,9 @@ rotation-requires c κs = (made-unit _ (c .before .before .turn-of .ensures), ma
 
 returns : tie.Need-returns
 unfolding rotationFor
-returns c = let last = c .before in c .rotation .ensures ∙ of-turns (last .before .before .turn-of .ensures) (last .before .turn-of2 .ensures) (last .turn-of3 .ensures)
+returns c =
+    let last = c .before in
+    c .rotation .ensures ∙ of-turns (last .before .before .turn-of .ensures) (last .before .turn-of2 .ensures) (last .turn-of3 .ensures)
 
 pub rotation-of-spec : {M : Type 1} → statement M
 rotation-of-spec =

@@ -26,7 +26,8 @@ search-requires c κs = search needs
 
 add-result : tie.Need-add-result
 unfolding keplerOf
-add-result c = let s = c .before .before .before .before in
+add-result c =
+    let s = c .before .before .before .before in
     let e = s .args .o .ellipse .eccentricity in
     omega (arith, ap (λ (b : Edge). b .low) (found c), kepler-lt e (meanOf (s .args .o) (s .args .at)))
 

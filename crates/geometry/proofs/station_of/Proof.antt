@@ -11,7 +11,9 @@ use borrow.Author.Needs.{needs}
 use Rattle.geometry.proofs.station_of.Statement.{statement}
 use Rattle.geometry.proofs.station_of.Tie as tie
 
-fields : {l k : Turn} {m n : Angle} {s r : ℤ} → l ≡ k → m ≡ n → s ≡ r → _≡_ {A = Station} (record { latitude = l; meridian = m; least = s }) (record { latitude = k; meridian = n; least = r })
+fields : {l k : Turn} {m n : Angle} {s r : ℤ} → l ≡ k → m ≡ n → s ≡ r
+    → _≡_ {A = Station} (record { latitude = l; meridian = m; least = s })
+    (record { latitude = k; meridian = n; least = r })
 fields e f g = cc
 
 turn-of-requires : tie.Need-turn-of-requires

@@ -22,7 +22,9 @@ direction-requires c κs = (made-unit _ (c .before .turn-of .ensures), made-unit
 
 returns : tie.Need-returns
 unfolding towardOf
-returns c = let last = c .before in c .direction .ensures ∙ of-turns (last .before .turn-of .ensures) (last .turn-of2 .ensures)
+returns c =
+    let last = c .before in
+    c .direction .ensures ∙ of-turns (last .before .turn-of .ensures) (last .turn-of2 .ensures)
 
 pub toward-spec : {M : Type 1} → statement M
 toward-spec = tie.close (tie.spec turn-of-requires turn-of-requires-2 direction-requires returns)

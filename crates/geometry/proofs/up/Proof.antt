@@ -23,13 +23,15 @@ rise-is : (c : tie.After-dot) → let s = c .before .before .before .before .bef
     Is (pos 0 -ℤ loc (c .dot .result)) (negℤ (dotOf (zenithOf (s .args .o) (s .args .at)) (s .args .o .body .toward))) (one + one + one)
 rise-is c =
     let s = c .before .before .before .before .before in
-    negation (held (called (c .dot .ensures ∙ ap (λ (u : List ℤ). dotOf u (s .args .o .body .toward)) (c .before .zenith .ensures)) (rise-within (s .pre .orbit) (s .args .at))) tt)
+    let sum = c .dot .ensures ∙ ap (λ (u : List ℤ). dotOf u (s .args .o .body .toward)) (c .before .zenith .ensures) in
+    negation (held (called sum (rise-within (s .pre .orbit) (s .args .at))) tt)
 
 zenith-requires : tie.Need-zenith-requires
 zenith-requires c κs = search needs
 
 dot-requires : tie.Need-dot-requires
-dot-requires c κs = let s = c .before .before .before .before in
+dot-requires c κs =
+    let s = c .before .before .before .before in
     (rw (c .zenith .ensures) (wider-entries (zenith-entries (s .pre .orbit) (s .args .at)) (lit≤ tt)), wider-entries (s .pre .orbit .body .toward) (lit≤ tt))
 
 sub-rise : tie.Need-sub-rise
@@ -37,7 +39,8 @@ sub-rise c = fit (rise-is c) tt
 
 returns : tie.Need-returns
 unfolding upAt
-returns c = let s = c .before .before .before .before .before .before .before in
+returns c =
+    let s = c .before .before .before .before .before .before .before in
     no-less (back (s .pre .orbit .station .least) tt) (held (rise-is (c .before .before)) tt .is)
 
 pub up-spec : {M : Type 1} → statement M

@@ -21,11 +21,15 @@ hidden-requires c κs = search needs
 
 returns : tie.Need-returns
 unfolding visibleAt
-returns c = let asked = c .before .before .up in if-up (asked .ensures) (c .before .if1 .taken) (c .hidden .ensures)
+returns c =
+    let asked = c .before .before .up in
+    if-up (asked .ensures) (c .before .if1 .taken) (c .hidden .ensures)
 
 returns-2 : tie.Need-returns-2
 unfolding visibleAt
-returns-2 c = let s = c .before .before .before in if-down (hiddenAt (s .args .o) (s .args .at)) (c .before .up .ensures) (c .if1 .left)
+returns-2 c =
+    let s = c .before .before .before in
+    if-down (hiddenAt (s .args .o) (s .args .at)) (c .before .up .ensures) (c .if1 .left)
 
 pub visible-spec : {M : Type 1} → statement M
 visible-spec = tie.close (tie.spec up-requires hidden-requires returns returns-2)

@@ -23,7 +23,8 @@ direction-requires c κs = (made-unit _ (c .turn-of .ensures), c .before .before
 
 returns : tie.Need-returns
 unfolding zenithOf τOf
-returns c = let turned = c .before .before in
+returns c =
+    let turned = c .before .before in
     let s = turned .before .before .before .before .args .o .station in
     c .direction .ensures
     ∙ ap (λ (τ : Turn). directionOf τ (s .latitude))

@@ -29,7 +29,8 @@ unit-requires-3 c κs = search needs
 
 returns : tie.Need-returns
 unfolding rowP
-returns c = let after₂ = c .before .before .before in
+returns c =
+    let after₂ = c .before .before .before in
     let before₂ = after₂ .before .before .before .before in
     let after₁ = before₂ .before .before .before in
     let before₁ = after₁ .before .before .before .before in

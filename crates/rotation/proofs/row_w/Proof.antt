@@ -17,7 +17,8 @@ sub-t5 c = fit (negation (held (c .unit2 .ensures) tt)) tt
 
 returns : tie.Need-returns
 unfolding rowW
-returns c = let first = c .before .before .before .before in
+returns c =
+    let first = c .before .before .before .before in
     let s = first .before .before .before in
     let Ω = s .pre .0 in
     let i = s .pre .1 in

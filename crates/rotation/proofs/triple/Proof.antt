@@ -12,7 +12,8 @@ unit-requires-2 : tie.Need-unit-requires-2
 unit-requires-2 c κs = search needs
 
 returns : tie.Need-returns
-returns c = let s = c .before .before in
+returns c =
+    let s = c .before .before in
     let inner = two (c .before .unit .ensures) (s .pre .0) (s .pre .1) in
     held (unit-is (c .unit2 .ensures) (inner .is) (back (s .pre .2) tt)) tt
 

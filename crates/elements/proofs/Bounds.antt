@@ -10,33 +10,33 @@ use Rattle.nearest.specs.Nearest.{metresOf, millisecondsOf, eccentricityOf, mos
 use Rattle.nearest.proofs.Nearest.{nearestOf-mono}
 use Rattle.elements.specs.Field.{periodIn}
 use Rattle.elements.specs.Accepted.{Accepted}
-use Rattle.elements.specs.Rounding.{wholesOf, Bounded}
+use Rattle.elements.specs.Rounding.{wholesOf, mostAxis, mostRadius, Bounded}
 use Rattle.elements.specs.declared.reading.Elements.{Elements}
 use Rattle.elements.proofs.Range.{at-most, axis-range, eccentricity-range, period-range, radius-range}
 
 -- ---- the ends, computed
 
-axis-end : metresOf (number 250000) ≡ 250000000
+axis-most : metresOf (number 250000) ≡ mostAxis
 unfolding decimal round nearestOf
-axis-end = refl
+axis-most = refl
 
-eccentricity-end : eccentricityOf (decimal 95 100) ≡ mostEccentric
+eccentricity-most : eccentricityOf (decimal 95 100) ≡ mostEccentric
 unfolding decimal round nearestOf
-eccentricity-end = refl
+eccentricity-most = refl
 
-shortest : millisecondsOf (number 60) ≡ 60000
+period-least : millisecondsOf (number 60) ≡ 60000
 unfolding decimal round nearestOf
-shortest = refl
+period-least = refl
 
-longest : millisecondsOf (number 2000000) ≡ 2000000000
+period-most : millisecondsOf (number 2000000) ≡ 2000000000
 unfolding decimal round nearestOf
-longest = refl
+period-most = refl
 
-radius-end : metresOf (number 100000) ≡ 100000000
+radius-most : metresOf (number 100000) ≡ mostRadius
 unfolding decimal round nearestOf
-radius-end = refl
+radius-most = refl
 
--- ---- the shortest period is not 0
+-- ---- the period-least period is not 0
 
 no-shorter : (x : Float) → T (periodIn x) → millisecondsOf (number 60) ≤ millisecondsOf x
 unfolding decimal round
@@ -50,9 +50,9 @@ pub bounded : (e : Elements) → Accepted e → Bounded (wholesOf e)
 unfolding wholesOf
 bounded e a =
     record {
-      axis = le-trans (at-most 1000 1 (lit< tt) (axis-range (e .axis) (a .axis-in))) (le-of-eq axis-end);
-      eccentricity = le-trans (at-most _ 1 (lit< tt) (eccentricity-range (e .eccentricity) (a .eccentricity-in))) (le-of-eq eccentricity-end);
-      short = le-trans (le-of-eq (sym shortest)) (no-shorter (e .period) (a .period-in));
-      long = le-trans (at-most 1000 1 (lit< tt) (period-range (e .period) (a .period-in))) (le-of-eq longest);
-      radius = le-trans (at-most 1000 1 (lit< tt) (radius-range (e .radius) (a .radius-in))) (le-of-eq radius-end);
+      axis = le-trans (at-most 1000 1 (lit< tt) (axis-range (e .axis) (a .axis-in))) (le-of-eq axis-most);
+      eccentricity = le-trans (at-most _ 1 (lit< tt) (eccentricity-range (e .eccentricity) (a .eccentricity-in))) (le-of-eq eccentricity-most);
+      short = le-trans (le-of-eq (sym period-least)) (no-shorter (e .period) (a .period-in));
+      long = le-trans (at-most 1000 1 (lit< tt) (period-range (e .period) (a .period-in))) (le-of-eq period-most);
+      radius = le-trans (at-most 1000 1 (lit< tt) (radius-range (e .radius) (a .radius-in))) (le-of-eq radius-most);
     }

@@ -1,5 +1,5 @@
 -- The elements in whole numbers (document 01, "From floats to whole numbers").
-use Prim.Native.Nat.{_≤_}
+use Prim.Native.Nat.{ℕ, _≤_}
 use lib.Ieee.{Float}
 use Rattle.nearest.specs.Nearest.{metresOf, millisecondsOf, eccentricityOf, mostEccentric}
 use Rattle.angle.specs.Turn.{degreesOf}
@@ -30,10 +30,17 @@ wholesOf e =
       elevation = angleOf (e .elevation);
     }
 
+-- the longest semimajor axis and the largest planet radius, in metres (document 01, fields 1 and 7)
+abbrev pub mostAxis : ℕ
+mostAxis = 250000000
+
+abbrev pub mostRadius : ℕ
+mostRadius = 100000000
+
 -- the bounds of accepted elements in whole numbers (proofs/Bounds.antt)
 pub record Bounded (w : Wholes) : Type 0 where
-  pub axis : w .axis ≤ 250000000
+  pub axis : w .axis ≤ mostAxis
   pub eccentricity : w .eccentricity ≤ mostEccentric
   pub short : 60000 ≤ w .period
   pub long : w .period ≤ 2000000000
-  pub radius : w .radius ≤ 100000000
+  pub radius : w .radius ≤ mostRadius

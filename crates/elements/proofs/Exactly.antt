@@ -1,5 +1,5 @@
 -- A record is refused exactly if the refusal's row applies and each before it passes, and read exactly if all pass; then the elements are accepted.
-use Prim.Native.Nat.{ℕ, _+_, _≤_, _<_}
+use Prim.Native.Nat.{ℕ, _+_, _-_, _≤_, _<_}
 use mathlib.Core.Path.{_≡_, refl, sym, ap, subst, _∙_}
 use mathlib.Core.Logic.{_↔_}
 use mathlib.Core.Bool.{Bool, true, false, not, cond}
@@ -8,38 +8,41 @@ use native.Mathlib.Omega.{arith}
 use borrow.Author.Tests.{eqb-true, not-false, eq-eqb, ne-eqb}
 use lib.Dec.{T, eqb, lit≤, lit<}
 use lib.ListN.{length}
-use lib.Ieee.{Float, nan, inf, fin, binary64, isNan, lt}
-use lib.Ieee.Bits.{toBits-ofBits}
-use lib.Ieee.Positive.{positive}
+use lib.Ieee.{Float, nan, inf, fin, binary64, sub, isNan, fits, le, lt}
+use lib.Ieee.Bits.{toBits-ofBits, ofBits-fits}
+use lib.Ieee.Exact.{HasValue}
+use lib.Ieee.Positive.{num, den, positive}
 use lib.Ieee.Scale.{finite}
+use Rattle.nearest.specs.Nearest.{decimal, number}
 use Rattle.words.specs.Little.{readOf, Bytes}
 use Rattle.words.proofs.Laws.{read-lt}
-use Rattle.refusal.specs.Refusal.{placeOf, fieldOf, valueOf}
-use Rattle.refusal.specs.Rows.{when, _then_, first, rowAt, Gives, Passes, Each, Placed}
-use Rattle.refusal.specs.Rows.Each.{done, _also_}
+use Rattle.refusal.specs.Refusal.{orderOf, fieldOf, valueOf}
+use Rattle.refusal.specs.Rows.{when, _then_, first, rowAt, Gives, Passes}
 use Rattle.refusal.specs.declared.Refusal.{Refusal}
-use Rattle.refusal.specs.declared.Refusal.the-variants.{Length, Word, NotFinite, OutOfRange, TooClose}
+use Rattle.refusal.specs.declared.Refusal.the-variants.{Length, Word, NotFinite, OutOfRange, TooClose, Window, Step, Question, Room, Kepler}
 use Rattle.refusal.specs.declared.Verdict.{Verdict}
 use Rattle.refusal.specs.declared.Verdict.the-variants as verdict
-use Rattle.refusal.proofs.Order.{not-both, when-refused, when-passed, when-place, first-each, each-weaker, first-exactly, passed-exactly}
-use Rattle.elements.specs.Field.{fieldAt, HasField, bitsIn, floatOf, fieldRow}
+use Rattle.refusal.proofs.Order.{not-both, when-refused, when-passed, when-order, Each, Ordered, first-each, each-weaker, first-exactly, passed-exactly}
+use Rattle.refusal.proofs.Order.Each.{done, _also_}
+use Rattle.elements.specs.Field.{fieldAt, HasField, bitsIn, floatOf, judge}
 use Rattle.elements.specs.Closest.{closestOf}
 use Rattle.elements.specs.Reading.{WholeRecord, elementsOf, orbitRows, skyRows, rowsFrom, recordRows, readFrom, readingOf, Returns}
 use Rattle.elements.specs.Accepted.{Accepted}
 use Rattle.elements.proofs.Distance.{distance-positive}
+use Rattle.elements.proofs.Sterbenz.{exact-from-half}
 use Rattle.elements.specs.declared.reading.Elements.{Elements}
 use Rattle.elements.specs.declared.reading.Reading.the-variants.{Read, Refused}
 
--- ---- a row's refusals: their place, and what they hand back
+-- ---- a row's refusals: their order, and what they hand back
 
 abbrev Told : List ℕ → ℕ → Refusal → Type 0
-Told s n r = (placeOf r ≡ n) × (WholeRecord s → Bytes s → Returns s r)
+Told s n r = (orderOf r ≡ n) × (WholeRecord s → Bytes s → Returns s r)
 
 -- of a row that names no field
-plain : (s : List ℕ) (test : Bool) (q r : Refusal) → fieldOf q ≡ 0 → when test q ≡ verdict.Refused r → Told s (placeOf q) r
+plain : (s : List ℕ) (test : Bool) (q r : Refusal) → fieldOf q ≡ 0 → when test q ≡ verdict.Refused r → Told s (orderOf q) r
 plain s test q r none h =
     let e : fieldOf r ≡ 0 = ap fieldOf (sym (when-refused test q r h .1)) ∙ none in
-    (when-place test q r h, λ w b named. absurd (omega arith))
+    (when-order test q r h, λ w b named. absurd (omega arith))
 
 -- a finite float's bits are those that it was read from
 finite-no-nan : (x : Float) → finite x ≡ true → T (not (isNan x))
@@ -56,22 +59,22 @@ module _ (s : List ℕ) (k : ℕ) where
   out-of-range : HasField s k → Bytes s → finite x ≡ true → Returns s (OutOfRange k x)
   out-of-range h b f named = (refl, toBits-ofBits binary64 (bitsIn s k) (read-lt 8 s (fieldAt k) h b) (finite-no-nan x f))
 
-  field-told : k ≤ 13 → (accepted : Bool) (r : Refusal) → fieldRow s k x accepted ≡ verdict.Refused r → Told s (1 + k) r
-  unfolding fieldRow
+  field-told : k ≤ 13 → (accepted : Bool) (r : Refusal) → judge s k x accepted ≡ verdict.Refused r → Told s (1 + k) r
+  unfolding judge
   field-told within accepted r h = go (finite x) refl h
     where
       go : (f : Bool) → finite x ≡ f → cond f (when (not accepted) (OutOfRange k x)) (verdict.Refused (NotFinite k x (bitsIn s k))) ≡ verdict.Refused r → Told s (1 + k) r
       go true f h = (
-        when-place (not accepted) (OutOfRange k x) r h,
+        when-order (not accepted) (OutOfRange k x) r h,
         λ w b. subst (Returns s) (when-refused (not accepted) (OutOfRange k x) r h .1) (out-of-range (omega arith) b f),
       )
       go false f h = (
-        when-place true (NotFinite k x (bitsIn s k)) r h,
+        when-order true (NotFinite k x (bitsIn s k)) r h,
         λ w b. subst (Returns s) (when-refused true (NotFinite k x (bitsIn s k)) r h .1) (λ named. (refl, refl)),
       )
 
-  field-in : (accepted : Bool) → fieldRow s k x accepted ≡ verdict.Passed → T accepted
-  unfolding fieldRow
+  field-in : (accepted : Bool) → judge s k x accepted ≡ verdict.Passed → T accepted
+  unfolding judge
   field-in accepted h = go (finite x) h
     where
       go : (f : Bool) → cond f (when (not accepted) (OutOfRange k x)) (verdict.Refused (NotFinite k x (bitsIn s k))) ≡ verdict.Passed → T accepted
@@ -103,8 +106,8 @@ told s =
     also (λ r h. plain s (not (lt (e .radius) d)) (TooClose d) r refl h)
     also done
 
-pub placed : (s : List ℕ) → Placed (recordRows s)
-placed s = each-weaker (λ n r t. t .0) (told s)
+pub ordered : (s : List ℕ) → Ordered (recordRows s)
+ordered s = each-weaker (λ n r t. t .0) (told s)
 
 passed-accepted : (s : List ℕ) → Passes (recordRows s) → Accepted (elementsOf s)
 unfolding orbitRows skyRows elementsOf rowAt
@@ -138,31 +141,53 @@ refused-from : (v : Verdict) (x : Elements) (r : Refusal) → readFrom v x ≡ R
 refused-from verdict.Passed x r h = let z : _≡_ {A = ℕ} 0 1 = cc in absurd (omega arith)
 refused-from (verdict.Refused q) x r h = cc
 
+-- a refusal that names a field is not the first row's
+named-later : (r : Refusal) → 0 < fieldOf r → 0 < orderOf r
+named-later Length h = h
+named-later Word h = lit< tt
+named-later (NotFinite k x b) h = omega arith
+named-later (OutOfRange k x) h = omega arith
+named-later (TooClose d) h = lit< tt
+named-later Window h = lit< tt
+named-later Step h = lit< tt
+named-later Question h = lit< tt
+named-later Room h = lit< tt
+named-later Kepler h = lit< tt
+
+length-passed : (s : List ℕ) → when (not (eqb (length s) 136)) Length ≡ verdict.Passed → WholeRecord s
+length-passed s h = eqb-true (length s) 136 (not-false (eqb (length s) 136) (when-passed (not (eqb (length s) 136)) Length h))
+
 module _ (s : List ℕ) where
-  -- refused exactly if the row at the refusal's place gives it and each row before passes: the "exactly if" of 1 to 5
-  pub refused-exactly : (r : Refusal) → (readingOf s ≡ Refused r) ↔ Gives (recordRows s) (placeOf r) r
+  -- refused exactly if the refusal's own row gives it and each row before passes: the "exactly if" of 1 to 5
+  pub refused-exactly : (r : Refusal) → (readingOf s ≡ Refused r) ↔ Gives (recordRows s) (orderOf r) r
   unfolding readingOf
   refused-exactly r =
-      let exactly = first-exactly (recordRows s) (placed s) r in (
+      let exactly = first-exactly (recordRows s) (ordered s) r in (
         λ h. exactly .0 (refused-from (first (recordRows s)) (elementsOf s) r h),
         λ g. ap (λ (v : Verdict). readFrom v (elementsOf s)) (exactly .1 g),
       )
 
-  -- and it hands back what the table says: the field's own float and bits where it names one
-  pub refused-returns : (r : Refusal) → WholeRecord s → Bytes s → readingOf s ≡ Refused r → Returns s r
-  unfolding readingOf
-  refused-returns r w b h = first-each (recordRows s) (told s) r (refused-from (first (recordRows s)) (elementsOf s) r h) .1 .1 w b
+  -- ---- what a refusal hands back
 
-  -- refusal 5's distance is a finite number above 0
-  pub refused-distance : (d : Float) → readingOf s ≡ Refused (TooClose d) → T (positive d)
+  -- the field's own float and bits, where it names one: then the first row, of the length, passed
+  pub refused-returns : (r : Refusal) → Bytes s → readingOf s ≡ Refused r → Returns s r
+  unfolding readingOf rowAt
+  refused-returns r b h named =
+      let later : 0 < orderOf r = named-later r named in
+      let w = length-passed s (refused-exactly r .0 h .none-before 0 later) in
+      first-each (recordRows s) (told s) r (refused-from (first (recordRows s)) (elementsOf s) r h) .1 .1 w b named
+
+  -- refusal 5 the closest distance, which is a finite number above 0
+  pub refused-distance : (d : Float) → readingOf s ≡ Refused (TooClose d) → (d ≡ closestOf (floatOf s 1) (floatOf s 2)) × T (positive d)
   unfolding orbitRows skyRows elementsOf rowAt
   refused-distance d h =
       let g = refused-exactly (TooClose d) .0 h in
-      let e = elementsOf s in
-      let own = closestOf (e .axis) (e .eccentricity) in
-      let same : own ≡ d = ap valueOf (when-refused (not (lt (e .radius) own)) (TooClose own) (TooClose d) (g .applies) .1) in
-      subst (λ (x : Float). T (positive x)) same
-      (distance-positive (e .axis) (e .eccentricity) (field-in s 1 _ (g .none-before 2 (lit< tt))) (field-in s 2 _ (g .none-before 3 (lit< tt))))
+      let own = closestOf (floatOf s 1) (floatOf s 2) in
+      let same : own ≡ d = ap valueOf (when-refused (not (lt (floatOf s 7) own)) (TooClose own) (TooClose d) (g .applies) .1) in
+      let above = distance-positive (floatOf s 1) (floatOf s 2) (field-in s 1 _ (g .none-before 2 (lit< tt))) (field-in s 2 _ (g .none-before 3 (lit< tt))) in
+      (sym same, subst (λ (x : Float). T (positive x)) same above)
+
+  -- ---- what is read
 
   -- read exactly if every row passes, and then the elements are the record's floats
   pub read-exactly : (e : Elements) → (readingOf s ≡ Read e) ↔ (Passes (recordRows s) × (e ≡ elementsOf s))
@@ -179,8 +204,15 @@ module _ (s : List ℕ) where
 
   pub read-whole : (e : Elements) → readingOf s ≡ Read e → WholeRecord s
   unfolding rowAt
-  read-whole e h =
-      eqb-true (length s) 136 (not-false (eqb (length s) 136) (when-passed (not (eqb (length s) 136)) Length (read-exactly e .0 h .0 0)))
+  read-whole e h = length-passed s (read-exactly e .0 h .0 0)
+
+  -- from an eccentricity of 0.5 on, 1 − e is exact
+  pub read-exact : (e : Elements) → readingOf s ≡ Read e → T (le (decimal 1 2) (e .eccentricity)) → let x = e .eccentricity in HasValue (sub binary64 (number 1) x) false (den x - num x) (den x)
+  unfolding elementsOf
+  read-exact e h half =
+      let p = read-exactly e .0 h .1 in
+      let fit = subst (λ (x : Elements). T (fits binary64 (x .eccentricity))) (sym p) (ofBits-fits binary64 (bitsIn s 2)) in
+      exact-from-half (e .eccentricity) fit half (read-accepted e h .eccentricity-in)
 
   -- ---- by the record's length
 

@@ -66,7 +66,7 @@ one-less e F lo hi = go e F (between (decimal 1 2) e (number 1) tt tt lo hi) (le
         let k = held m x (ltb→lt 0 m p) F in
         subst (λ (v : Float). HasValue v false (down x - m * up x) (down x)) (sym (less-is m x g)) (difference m x (k .0) (k .1) (omega arith) g)
 
--- so it is for every accepted eccentricity from 0.5 on
+-- so it is for every accepted eccentricity from 0.5 on that is a binary64
 pub exact-from-half : (e : Float) → T (fits binary64 e) → T (le (decimal 1 2) e) → T (eccentricityIn e) → HasValue (sub binary64 (number 1) e) false (den e - num e) (den e)
 unfolding decimal round le
 exact-from-half e F lo t =

@@ -1,4 +1,4 @@
--- What holds of elements that were read: every field is accepted, and the closest distance is above R.
+-- What holds of elements that were read: every field is accepted, and the closest distance is above R (document 01, "What the desk feeds and gets").
 use lib.Dec.{T}
 use lib.Ieee.{lt}
 use Rattle.elements.specs.Field.{axisIn, eccentricityIn, inclinationIn, turnIn, periodIn, radiusIn, latitudeIn, elevationIn}

@@ -11,11 +11,11 @@ use Rattle.refusal.specs.declared.Refusal.the-variants.{NotFinite, OutOfRange}
 use Rattle.refusal.specs.declared.Verdict.{Verdict}
 use Rattle.refusal.specs.declared.Verdict.the-variants.{Refused}
 
--- field k stands at 8 + 8·(k−1)
+-- field k stands at 8 + 8·(k−1), which is 8·k for k from 1
 abbrev pub fieldAt : ℕ → ℕ
 fieldAt k = 8 * k
 
--- the record has a field k
+-- the record has a field k; for the contracts of private functions
 abbrev pub HasField : List ℕ → ℕ → Type 0
 HasField s k = Holds 8 s (fieldAt k)
 
@@ -71,5 +71,9 @@ elevationIn x = within (number 0) (number 90) x
 -- ---- refusals 3 and 4
 
 -- field k with the float x: 3 where it is NaN or infinite, with its bits; 4 where it is finite and not accepted
-unfoldable pub fieldRow : List ℕ → ℕ → Float → Bool → Verdict
-fieldRow s k x accepted = cond (finite x) (when (not accepted) (OutOfRange k x)) (Refused (NotFinite k x (bitsIn s k)))
+unfoldable pub judge : List ℕ → ℕ → Float → Bool → Verdict
+judge s k x accepted = cond (finite x) (when (not accepted) (OutOfRange k x)) (Refused (NotFinite k x (bitsIn s k)))
+
+-- its row, by what is accepted
+abbrev pub fieldRow : List ℕ → ℕ → Float → (Float → Bool) → Verdict
+fieldRow s k x accepted = judge s k x (accepted x)

@@ -52,26 +52,27 @@ lengthRow s = when (not (eqb (length s) 136)) Length
 abbrev pub wordRow : List ℕ → Verdict
 wordRow s = when (not (eqb (readOf 4 s 4) 0)) Word
 
--- 3 and 4 together: fields are tried in number order, 3 before 4 for each
+-- 3 and 4 together: fields are tried in number order, 3 before 4 for each. Fields 1 to 7
 unfoldable pub orbitRows : List ℕ → Elements → List Verdict
 orbitRows s e =
-    fieldRow s 1 (e .axis) (axisIn (e .axis))
-    ∷ fieldRow s 2 (e .eccentricity) (eccentricityIn (e .eccentricity))
-    ∷ fieldRow s 3 (e .inclination) (inclinationIn (e .inclination))
-    ∷ fieldRow s 4 (e .node) (turnIn (e .node))
-    ∷ fieldRow s 5 (e .periapsis) (turnIn (e .periapsis))
-    ∷ fieldRow s 6 (e .period) (periodIn (e .period))
-    ∷ fieldRow s 7 (e .radius) (radiusIn (e .radius))
+    fieldRow s 1 (e .axis) axisIn
+    ∷ fieldRow s 2 (e .eccentricity) eccentricityIn
+    ∷ fieldRow s 3 (e .inclination) inclinationIn
+    ∷ fieldRow s 4 (e .node) turnIn
+    ∷ fieldRow s 5 (e .periapsis) turnIn
+    ∷ fieldRow s 6 (e .period) periodIn
+    ∷ fieldRow s 7 (e .radius) radiusIn
     ∷ []
 
+-- fields 8 to 13
 unfoldable pub skyRows : List ℕ → Elements → List Verdict
 skyRows s e =
-    fieldRow s 8 (e .ascension) (turnIn (e .ascension))
-    ∷ fieldRow s 9 (e .declination) (latitudeIn (e .declination))
-    ∷ fieldRow s 10 (e .latitude) (latitudeIn (e .latitude))
-    ∷ fieldRow s 11 (e .longitude) (turnIn (e .longitude))
-    ∷ fieldRow s 12 (e .greenwich) (turnIn (e .greenwich))
-    ∷ fieldRow s 13 (e .elevation) (elevationIn (e .elevation))
+    fieldRow s 8 (e .ascension) turnIn
+    ∷ fieldRow s 9 (e .declination) latitudeIn
+    ∷ fieldRow s 10 (e .latitude) latitudeIn
+    ∷ fieldRow s 11 (e .longitude) turnIn
+    ∷ fieldRow s 12 (e .greenwich) turnIn
+    ∷ fieldRow s 13 (e .elevation) elevationIn
     ∷ []
 
 -- 5: closest distance not above R

@@ -2,7 +2,7 @@
 ghost use mathlib.Core.Path.{_≡_};
 ghost use lib.Ieee.{binary64, ofBits};
 ghost use lib.Ieee.Scale.{finite};
-ghost use Rattle.elements.specs.Field.{within, turnIn, HasField, floatOf, fieldRow};
+ghost use Rattle.elements.specs.Field.{within, turnIn, HasField, floatOf, judge, fieldRow};
 use refusal::Refusal;
 use refusal::Verdict;
 use refusal::row;
@@ -48,10 +48,10 @@ fn is_turn(x: f64) -> bool
     0.0 <= x && x < 360.0
 }
 
-// Field k with the float x: refusal 3 comes before refusal 4. The bytes are looked at again only for a NaN's own bits.
+// Field k with the float x: refusal 3 comes before refusal 4. The bytes are looked at again only for refusal 3, for a NaN's own bits.
 fn judged(s: &[u8], k: u32, x: f64, accepted: bool) -> Verdict
     requires { ⌜ HasField (now s) k ⌝ }
-    ensures { λ v. ⌜ v ≡ fieldRow (now (s .entry)) k x accepted ⌝ }
+    ensures { λ v. ⌜ v ≡ judge (now (s .entry)) k x accepted ⌝ }
 {
     if is_finite(x) {
         row(!accepted, Refusal::OutOfRange { field: k, value: x })
@@ -67,7 +67,7 @@ fn judged(s: &[u8], k: u32, x: f64, accepted: bool) -> Verdict
 // Field k with the float x, accepted from `low` to `high`.
 pub fn field(s: &[u8], k: u32, x: f64, low: f64, high: f64) -> Verdict
     requires { ⌜ HasField (now s) k ⌝ }
-    ensures { λ v. ⌜ v ≡ fieldRow (now (s .entry)) k x (within low high x) ⌝ }
+    ensures { λ v. ⌜ v ≡ fieldRow (now (s .entry)) k x (within low high) ⌝ }
 {
     judged(s, k, x, is_within(x, low, high))
 }
@@ -75,7 +75,7 @@ pub fn field(s: &[u8], k: u32, x: f64, low: f64, high: f64) -> Verdict
 // Field k with the float x, an angle from 0 up to, not with, 360.
 pub fn turn(s: &[u8], k: u32, x: f64) -> Verdict
     requires { ⌜ HasField (now s) k ⌝ }
-    ensures { λ v. ⌜ v ≡ fieldRow (now (s .entry)) k x (turnIn x) ⌝ }
+    ensures { λ v. ⌜ v ≡ fieldRow (now (s .entry)) k x turnIn ⌝ }
 {
     judged(s, k, x, is_turn(x))
 }

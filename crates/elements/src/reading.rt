@@ -8,8 +8,8 @@ use crate::fields::float;
 use crate::fields::turn;
 use refusal::Refusal;
 use refusal::Verdict;
-use refusal::first;
 use refusal::row;
+use refusal::then;
 
 // The thirteen fields as floats: km, degrees and seconds, as they stand in the record.
 pub struct Elements {
@@ -70,12 +70,12 @@ fn orbit(s: &[u8], e: Elements) -> Verdict
     ensures { λ v. ⌜ v ≡ first (orbitRows (now (s .entry)) e) ⌝ }
 {
     let v = field(s, 1, e.axis, 100.0, 250000.0);
-    let v = first(v, field(s, 2, e.eccentricity, 0.0, 0.95));
-    let v = first(v, field(s, 3, e.inclination, 0.0, 180.0));
-    let v = first(v, turn(s, 4, e.node));
-    let v = first(v, turn(s, 5, e.periapsis));
-    let v = first(v, field(s, 6, e.period, 60.0, 2000000.0));
-    first(v, field(s, 7, e.radius, 1.0, 100000.0))
+    let v = then(v, field(s, 2, e.eccentricity, 0.0, 0.95));
+    let v = then(v, field(s, 3, e.inclination, 0.0, 180.0));
+    let v = then(v, turn(s, 4, e.node));
+    let v = then(v, turn(s, 5, e.periapsis));
+    let v = then(v, field(s, 6, e.period, 60.0, 2000000.0));
+    then(v, field(s, 7, e.radius, 1.0, 100000.0))
 }
 
 // Fields 8 to 13, in number order.
@@ -84,11 +84,11 @@ fn sky(s: &[u8], e: Elements) -> Verdict
     ensures { λ v. ⌜ v ≡ first (skyRows (now (s .entry)) e) ⌝ }
 {
     let v = turn(s, 8, e.ascension);
-    let v = first(v, field(s, 9, e.declination, -90.0, 90.0));
-    let v = first(v, field(s, 10, e.latitude, -90.0, 90.0));
-    let v = first(v, turn(s, 11, e.longitude));
-    let v = first(v, turn(s, 12, e.greenwich));
-    first(v, field(s, 13, e.elevation, 0.0, 90.0))
+    let v = then(v, field(s, 9, e.declination, -90.0, 90.0));
+    let v = then(v, field(s, 10, e.latitude, -90.0, 90.0));
+    let v = then(v, turn(s, 11, e.longitude));
+    let v = then(v, turn(s, 12, e.greenwich));
+    then(v, field(s, 13, e.elevation, 0.0, 90.0))
 }
 
 // Refusal 5: the closest distance is not above the planet's radius.
@@ -104,9 +104,9 @@ fn checked(s: &[u8], e: Elements) -> Verdict
     requires { ⌜ WholeRecord (now s) ⌝ }
     ensures { λ v. ⌜ v ≡ first (rowsFrom (now (s .entry)) e) ⌝ }
 {
-    let v = first(word_row(s), orbit(s, e));
-    let v = first(v, sky(s, e));
-    first(v, close_row(e))
+    let v = then(word_row(s), orbit(s, e));
+    let v = then(v, sky(s, e));
+    then(v, close_row(e))
 }
 
 // The elements, or the first refusal of 1 to 5 that applies.

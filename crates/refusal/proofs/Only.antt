@@ -10,8 +10,8 @@ use Rattle.refusal.proofs.bits.Kinds as bits
 use Rattle.refusal.proofs.bits.Reads as bits-reads
 use Rattle.refusal.proofs.row.Kinds as row
 use Rattle.refusal.proofs.row.Reads as row-reads
-use Rattle.refusal.proofs.first.Kinds as first
-use Rattle.refusal.proofs.first.Reads as first-reads
+use Rattle.refusal.proofs.then.Kinds as then
+use Rattle.refusal.proofs.then.Reads as then-reads
 
 pub number-only : OneResult 0 number.ps number.r number-reads.Post
 number-only κs a x y s t p q = by-value _ p q
@@ -28,5 +28,5 @@ bits-only κs a x y s t p q = by-value _ p q
 pub row-only : OneResult 0 row.ps row.r row-reads.Post
 row-only κs a x y s t p q = by-value _ p q
 
-pub first-only : OneResult 0 first.ps first.r first-reads.Post
-first-only κs a x y s t p q = by-value _ p q
+pub then-only : OneResult 0 then.ps then.r then-reads.Post
+then-only κs a x y s t p q = by-value _ p q

@@ -1,13 +1,12 @@
--- The first that applies: `first` gives a refusal exactly if the row at its place does and each row before it passes; by induction on the table.
+-- The first that applies: `first` gives a refusal exactly if its own row does and each row before it passes; by induction on the table.
 use Prim.Native.Nat.{ℕ, zero, suc, _+_, _<_}
 use mathlib.Core.Path.{_≡_, refl, sym, ap, subst, _∙_}
 use mathlib.Core.Logic.{_↔_}
 use mathlib.Core.Bool.{Bool, true, false}
 use mathlib.Core.List.{List, [], _∷_, _++_}
 use native.Mathlib.Omega.{arith}
-use Rattle.refusal.specs.Refusal.{placeOf}
-use Rattle.refusal.specs.Rows.{when, _then_, first, rowAt, Gives, Passes, Each, Placed}
-use Rattle.refusal.specs.Rows.Each.{done, _also_}
+use Rattle.refusal.specs.Refusal.{orderOf}
+use Rattle.refusal.specs.Rows.{when, _then_, first, rowAt, Gives, Passes}
 use Rattle.refusal.specs.declared.Refusal.{Refusal}
 use Rattle.refusal.specs.declared.Verdict.{Verdict}
 use Rattle.refusal.specs.declared.Verdict.the-variants.{Passed, Refused}
@@ -28,19 +27,11 @@ unfolding _then_
 then-passed Passed = refl
 then-passed (Refused r) = refl
 
-then-both : (a b : Verdict) → a then b ≡ Passed → (a ≡ Passed) × (b ≡ Passed)
-unfolding _then_
-then-both Passed b h = (refl, h)
-then-both (Refused r) b h = absurd (not-both h refl)
-
--- a table in two parts: where the first part refuses, so does the table; where it passes, the second part decides
+-- a table in two parts: where the first part passes, the second decides
 pub first-append : (xs ys : List Verdict) → first (xs ++ ys) ≡ first xs then first ys
 unfolding first _then_
 first-append [] ys = refl
 first-append (x ∷ xs) ys = ap (λ (v : Verdict). x then v) (first-append xs ys) ∙ sym (then-assoc x (first xs) (first ys))
-
-pub first-both : (xs ys : List Verdict) → first (xs ++ ys) ≡ Passed → (first xs ≡ Passed) × (first ys ≡ Passed)
-first-both xs ys h = then-both (first xs) (first ys) (sym (first-append xs ys) ∙ h)
 
 -- ---- a row and its test
 
@@ -96,6 +87,16 @@ module _ {r : Refusal} where
 
 -- ---- what holds of each row's refusals holds of the one that is given
 
+infixr 10 _also_
+-- each row of a table, counted from n, gives only refusals r with Q n r
+pub data Each (Q : ℕ → Refusal → Type 0) : ℕ → List Verdict → Type 0 where
+  done : {n : ℕ} → Each Q n []
+  _also_ : {n : ℕ} {v : Verdict} {vs : List Verdict} → ((r : Refusal) → v ≡ Refused r → Q n r) → Each Q (suc n) vs → Each Q n (v ∷ vs)
+
+-- each row gives only refusals whose order is its own
+abbrev pub Ordered : List Verdict → Type 0
+Ordered vs = Each (λ n r. orderOf r ≡ n) 0 vs
+
 module _ {Q : ℕ → Refusal → Type 0} where
   each-at : (n : ℕ) (vs : List Verdict) → Each Q n vs → (k : ℕ) (r : Refusal) → rowAt vs k ≡ Refused r → Q (n + k) r
   unfolding rowAt
@@ -112,16 +113,16 @@ module _ {Q : ℕ → Refusal → Type 0} where
   each-weaker f done = done
   each-weaker f {n} (own also rest) = (λ r h. f n r (own r h)) also each-weaker f rest
 
--- ---- each refusal has its own place
+-- ---- each refusal has its own row
 
-pub when-place : (test : Bool) (q r : Refusal) → when test q ≡ Refused r → placeOf r ≡ placeOf q
-when-place test q r h = ap placeOf (sym (when-refused test q r h .1))
+pub when-order : (test : Bool) (q r : Refusal) → when test q ≡ Refused r → orderOf r ≡ orderOf q
+when-order test q r h = ap orderOf (sym (when-refused test q r h .1))
 
-pub first-exactly : (vs : List Verdict) → Placed vs → (r : Refusal) → (first vs ≡ Refused r) ↔ Gives vs (placeOf r) r
-first-exactly vs p r = (there, gives-first vs (placeOf r))
+pub first-exactly : (vs : List Verdict) → Ordered vs → (r : Refusal) → (first vs ≡ Refused r) ↔ Gives vs (orderOf r) r
+first-exactly vs p r = (there, gives-first vs (orderOf r))
   where
-    there : first vs ≡ Refused r → Gives vs (placeOf r) r
+    there : first vs ≡ Refused r → Gives vs (orderOf r) r
     there h =
         let g = first-gives vs h in
-        let e : placeOf r ≡ g .0 = each-at 0 vs p (g .0) r (g .1 .applies) ∙ omega arith in
+        let e : orderOf r ≡ g .0 = each-at 0 vs p (g .0) r (g .1 .applies) ∙ omega arith in
         rw e (g .1)

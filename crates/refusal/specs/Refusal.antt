@@ -61,14 +61,14 @@ bitsOf Room = 0
 bitsOf Kepler = 0
 
 -- how many rows are tried before the refusal's own: in the table's order, but 3 and 4 together, the thirteen fields in number order
-abbrev pub placeOf : Refusal → ℕ
-placeOf Length = 0
-placeOf Word = 1
-placeOf (NotFinite k x b) = 1 + k
-placeOf (OutOfRange k x) = 1 + k
-placeOf (TooClose d) = 15
-placeOf Window = 16
-placeOf Step = 17
-placeOf Question = 18
-placeOf Room = 19
-placeOf Kepler = 20
+abbrev pub orderOf : Refusal → ℕ
+orderOf Length = 0
+orderOf Word = 1
+orderOf (NotFinite k x b) = 1 + k
+orderOf (OutOfRange k x) = 1 + k
+orderOf (TooClose d) = 15
+orderOf Window = 16
+orderOf Step = 17
+orderOf Question = 18
+orderOf Room = 19
+orderOf Kepler = 20

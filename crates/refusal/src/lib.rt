@@ -135,7 +135,7 @@ pub fn row(test: bool, r: Refusal) -> Verdict
 }
 
 // The refusal of `a`, or else what `b` says.
-pub fn first(a: Verdict, b: Verdict) -> Verdict
+pub fn then(a: Verdict, b: Verdict) -> Verdict
     ensures { λ v. ⌜ v ≡ (a then b) ⌝ }
 {
     match a {

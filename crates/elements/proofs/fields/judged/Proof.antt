@@ -1,6 +1,6 @@
 -- `elements::judged` meets its contract: by whether the float is finite.
 use mathlib.Core.Path.{sym, _∙_}
-use Rattle.elements.specs.Field.{fieldRow}
+use Rattle.elements.specs.Field.{judge}
 use borrow.Author.Needs.{needs}
 use Rattle.elements.proofs.fields.judged.Statement.{statement}
 use Rattle.elements.proofs.fields.judged.Tie as tie
@@ -18,11 +18,11 @@ read8-requires : tie.Need-read8-requires
 read8-requires c κs = search needs
 
 returns : tie.Need-returns
-unfolding fieldRow
+unfolding judge
 returns c = simp (sym (c .before .before .is-finite .ensures) ∙ c .before .if1 .taken) (c .row .ensures)
 
 returns-2 : tie.Need-returns-2
-unfolding fieldRow
+unfolding judge
 returns-2 c = simp (sym (c .before .before .is-finite .ensures) ∙ c .before .if1 .left, c .read8 .ensures)
 
 pub judged-spec : {M : Type 1} → statement M

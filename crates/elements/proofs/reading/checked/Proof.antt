@@ -11,20 +11,20 @@ word-row-requires c κs = search needs
 orbit-requires : tie.Need-orbit-requires
 orbit-requires c κs = search needs
 
-first-requires : tie.Need-first-requires
-first-requires c κs = search needs
+then-requires : tie.Need-then-requires
+then-requires c κs = search needs
 
 sky-requires : tie.Need-sky-requires
 sky-requires c κs = search needs
 
-first-requires-2 : tie.Need-first-requires-2
-first-requires-2 c κs = search needs
+then-requires-2 : tie.Need-then-requires-2
+then-requires-2 c κs = search needs
 
 close-row-requires : tie.Need-close-row-requires
 close-row-requires c κs = search needs
 
-first-requires-3 : tie.Need-first-requires-3
-first-requires-3 c κs = search needs
+then-requires-3 : tie.Need-then-requires-3
+then-requires-3 c κs = search needs
 
 returns : tie.Need-returns
 unfolding first
@@ -32,11 +32,11 @@ returns c =
     let second = c .before .before in
     let start = second .before .before in
     simp (
-      c .first3 .ensures,
+      c .then3 .ensures,
       c .before .close-row .ensures,
-      second .first2 .ensures,
+      second .then2 .ensures,
       second .before .sky .ensures,
-      start .first .ensures,
+      start .then .ensures,
       start .before .orbit .ensures,
       start .before .before .word-row .ensures,
       then-assoc,
@@ -50,9 +50,9 @@ checked-spec =
     (tie.spec
     word-row-requires
     orbit-requires
-    first-requires
+    then-requires
     sky-requires
-    first-requires-2
+    then-requires-2
     close-row-requires
-    first-requires-3
+    then-requires-3
     returns)

@@ -14,36 +14,36 @@ turn-requires c κs = search needs
 field-requires : tie.Need-field-requires
 field-requires c κs = search needs
 
-first-requires : tie.Need-first-requires
-first-requires c κs = search needs
+then-requires : tie.Need-then-requires
+then-requires c κs = search needs
 
 field-requires-2 : tie.Need-field-requires-2
 field-requires-2 c κs = search needs
 
-first-requires-2 : tie.Need-first-requires-2
-first-requires-2 c κs = search needs
+then-requires-2 : tie.Need-then-requires-2
+then-requires-2 c κs = search needs
 
 turn-requires-2 : tie.Need-turn-requires-2
 turn-requires-2 c κs = search needs
 
-first-requires-3 : tie.Need-first-requires-3
-first-requires-3 c κs = search needs
+then-requires-3 : tie.Need-then-requires-3
+then-requires-3 c κs = search needs
 
 turn-requires-3 : tie.Need-turn-requires-3
 turn-requires-3 c κs = search needs
 
-first-requires-4 : tie.Need-first-requires-4
-first-requires-4 c κs = search needs
+then-requires-4 : tie.Need-then-requires-4
+then-requires-4 c κs = search needs
 
 field-requires-3 : tie.Need-field-requires-3
 field-requires-3 c κs = search needs
 
-first-requires-5 : tie.Need-first-requires-5
-first-requires-5 c κs = search needs
+then-requires-5 : tie.Need-then-requires-5
+then-requires-5 c κs = search needs
 
 returns : tie.Need-returns
 unfolding skyRows first decimal round ofBits neg
-returns c = simp (c .first5 .ensures, c .before .field3 .ensures, c .before .before .first4 .ensures, c .before .before .before .turn3 .ensures, c .before .before .before .before .first3 .ensures, c .before .before .before .before .before .turn2 .ensures, c .before .before .before .before .before .before .first2 .ensures, c .before .before .before .before .before .before .before .field2 .ensures, c .before .before .before .before .before .before .before .before .first .ensures, c .before .before .before .before .before .before .before .before .before .field .ensures, c .before .before .before .before .before .before .before .before .before .before .turn .ensures, then-assoc, then-passed)
+returns c = simp (c .then5 .ensures, c .before .field3 .ensures, c .before .before .then4 .ensures, c .before .before .before .turn3 .ensures, c .before .before .before .before .then3 .ensures, c .before .before .before .before .before .turn2 .ensures, c .before .before .before .before .before .before .then2 .ensures, c .before .before .before .before .before .before .before .field2 .ensures, c .before .before .before .before .before .before .before .before .then .ensures, c .before .before .before .before .before .before .before .before .before .field .ensures, c .before .before .before .before .before .before .before .before .before .before .turn .ensures, then-assoc, then-passed)
 
 pub sky-spec : {M : Type 1} → statement M
 sky-spec =
@@ -51,13 +51,13 @@ sky-spec =
     (tie.spec
     turn-requires
     field-requires
-    first-requires
+    then-requires
     field-requires-2
-    first-requires-2
+    then-requires-2
     turn-requires-2
-    first-requires-3
+    then-requires-3
     turn-requires-3
-    first-requires-4
+    then-requires-4
     field-requires-3
-    first-requires-5
+    then-requires-5
     returns)

@@ -1,8 +1,8 @@
--- `refusal::first` meets its contract: by which of the two `a` is.
+-- `refusal::then` meets its contract: by which of the two `a` is.
 use borrow.Author.Needs.{needs}
 use Rattle.refusal.specs.Rows.{_then_}
-use Rattle.refusal.proofs.first.Statement.{statement}
-use Rattle.refusal.proofs.first.Tie as tie
+use Rattle.refusal.proofs.then.Statement.{statement}
+use Rattle.refusal.proofs.then.Tie as tie
 
 enum-told : tie.Need-enum-told
 enum-told c = search needs
@@ -18,5 +18,5 @@ returns-2 : tie.Need-returns-2
 unfolding _then_
 returns-2 c = rw (c .enum-told2 .given .1)
 
-pub first-spec : {M : Type 1} → statement M
-first-spec = tie.close (tie.spec enum-told enum-told-2 returns returns-2)
+pub then-spec : {M : Type 1} → statement M
+then-spec = tie.close (tie.spec enum-told enum-told-2 returns returns-2)

@@ -176,8 +176,3 @@ def at(o, t):
     X, Y = place(o, t)
     d = depth(o, X, Y)
     return Instant(X, Y, d, hidden(o.R, X, Y, d), up(o, t))
-
-
-def answer(question, instant):
-    """Question 1 asks hidden, question 2 visible: up and not hidden."""
-    return instant.hidden if question == 1 else instant.up and not instant.hidden

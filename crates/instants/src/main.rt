@@ -25,7 +25,7 @@ fn print(z: i64) {
     io::write_all(STDOUT_FILENO, b" ");
 }
 
-// One line: X, Y, d, hidden or seen, up or down.
+// The rest of a line: the time, X, Y, d, hidden or seen, up or down.
 fn line(t: &[u32], o: Orbit, at: u64)
     requires { ⌜ Ready (now t) o ⌝ }
 {

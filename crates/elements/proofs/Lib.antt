@@ -2,6 +2,7 @@
 pub mod Range
 pub mod Sterbenz
 pub mod Distance
+pub mod Rows
 pub mod Exactly
 pub mod Bounds
 pub mod Only

@@ -39,7 +39,7 @@ rotationFor w = rotationOf (turnOf (w .periapsis .units)) (turnOf (w .node .unit
 unfoldable pub towardOf : Wholes → List ℤ
 towardOf w = directionOf (turnOf (w .ascension .units)) (turnOf (w .declination .units))
 
--- Ep is the sum of P's entries each ∘ E's; Eq likewise, with Q. They are rows 0 and 1 of the rotation
+-- Ep is the sum of P's entries each ∘ E's; Eq likewise. P and Q are rows 0 and 1 of the rotation
 unfoldable pub bodyOf : Wholes → Body
 bodyOf w =
     let m = rotationFor w in

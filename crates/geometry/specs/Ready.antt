@@ -38,7 +38,7 @@ pub record SoundStation (s : Station) : Type 0 where
   pub latitude : UnitTurn (s .latitude)
   pub least : Small (s .least)
 
--- all three sound
+-- its three parts are sound
 pub record SoundOrbit (o : Orbit) : Type 0 where
   pub ellipse : SoundEllipse (o .ellipse)
   pub body : SoundBody (o .body)

@@ -22,7 +22,7 @@ AllHold (given is said ∷ rest) = (given ≡ said) × AllHold rest
 abbrev pub half : ℕ
 half = eccentricityOf (decimal 5 10)
 
--- in document 01's order and numbers
+-- in document 01's order, each number as it stands there; that of e 0.95 is the one that `mostEccentric` names
 abbrev pub cases : List Case
 cases =
     sineOf 0 is pos 0

@@ -5,7 +5,7 @@ use Prim.Native.Nat.{ℕ, _+_, _*_, _≤_, _<_, _^_}
 use native.Mathlib.Nat.{lt-of-le-of-lt}
 use lib.Dec.{T, leb, ltb, leb→le, ltb→lt}
 use lib.IntN.{ℤ, pos, negℤ, _+ℤ_, _-ℤ_, _*ℤ_, +ℤ-idl}
-use lib.Signed.{mag, ltZ}
+use lib.Signed.{mag, ltZ, leZ}
 use mir.Syntax.{w64}
 use mir.Val.{SFits, toZ, ofZ}
 use mir.Facts.{toZ-ofZ, toZ-pos}
@@ -52,6 +52,10 @@ got z h = toZ-ofZ (record { sfits = h })
 -- what a test of a local against a number tells of what the local holds
 pub told : {z : ℤ} {t : Bool} (k : ℤ) → SFits w64 z → ltZ (loc z) k ≡ t → ltZ z k ≡ t
 told k f e = ap (λ (v : ℤ). ltZ v k) (sym (toZ-ofZ f)) ∙ e
+
+-- the test of what stands for two numbers is the test of the numbers
+pub compared : {x v y w : ℤ} → x ≡ v → y ≡ w → leZ x y ≡ leZ v w
+compared e f = cc
 
 -- ---- the operations
 

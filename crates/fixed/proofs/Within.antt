@@ -76,6 +76,16 @@ scaled-within k h i j = floor-within one k (mul-within h i) (lit< tt) j
 pub small-scaled : {a b : ℤ} → Small a → Small b → Small (a ∘ b)
 small-scaled h k = scaled-within one h k (lit≤ tt)
 
+-- two numbers of at most one make at most two, added or taken away
+pub two-added : {a b : ℤ} → Small a → Small b → Within (a +ℤ b) (2 * one)
+two-added h k = add-within h k
+
+pub two-taken : {a b : ℤ} → Small a → Small b → Within (a -ℤ b) (2 * one)
+two-taken h k = sub-within h k
+
+-- for `search small`: what is made of numbers of at most one, whatever the signs and the order
+pub ruleset small = (neg-within, small-scaled, two-added, two-taken)
+
 pub dot-within : {p e : List ℤ} {m n : ℕ} (k : ℕ) → Entries p m → Entries e n → m * n ≤ k * one → Within (dotOf p e) (k + k + k)
 unfolding dotOf
 dot-within k h i t =

@@ -1,5 +1,7 @@
 -- The contracts of the public functions, as the check reads them off the source, leave one answer only: each is an equation.
 use Rattle.determined.specs.Determined.{OneResult, by-value}
+use Rattle.geometry.proofs.rotation_of.Kinds as rotation-of
+use Rattle.geometry.proofs.rotation_of.Reads as rotation-of-reads
 use Rattle.geometry.proofs.prepare.Kinds as prepare
 use Rattle.geometry.proofs.prepare.Reads as prepare-reads
 use Rattle.geometry.proofs.settles.Kinds as settles
@@ -14,6 +16,9 @@ use Rattle.geometry.proofs.up.Kinds as up
 use Rattle.geometry.proofs.up.Reads as up-reads
 use Rattle.geometry.proofs.answer.Kinds as answer
 use Rattle.geometry.proofs.answer.Reads as answer-reads
+
+pub rotation-of-only : OneResult 1 rotation-of.ps rotation-of.r rotation-of-reads.Post
+rotation-of-only κs a x y s t p q = by-value _ p q
 
 pub prepare-only : OneResult 1 prepare.ps prepare.r prepare-reads.Post
 prepare-only κs a x y s t p q = by-value _ p q

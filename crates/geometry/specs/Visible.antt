@@ -24,11 +24,12 @@ unfoldable pub τOf : Orbit → ℕ → ℕ
 unfoldable pub zenithOf : Orbit → ℕ → List ℤ
 zenithOf o t = directionOf (turnOf (τOf o t)) (o .station .latitude)
 
--- −(ux∘Ex + uy∘Ey + uz∘Ez) ≥ sine of field 13. Equality is up (source 002, equation (6): occulted when less)
+-- −(ux∘Ex + uy∘Ey + uz∘Ez) ≥ sine of field 13: the planet is taken as infinitely far, along −E. Equality is up (source 002,
+-- equation (6): occulted when less)
 unfoldable pub upAt : Orbit → ℕ → Bool
 upAt o t = leZ (o .station .least) (negℤ (dotOf (zenithOf o t) (o .body .toward)))
 
--- visible: up and not hidden
+-- visible: up and not hidden. Question 2 supposes that the far body is the Earth (document 01, "Hidden and visible")
 unfoldable pub visibleAt : Orbit → ℕ → Bool
 visibleAt o t = upAt o t && not (hiddenAt o t)
 

@@ -79,7 +79,7 @@ fn ellipse_of(w: Wholes) -> Ellipse
 }
 
 // The rotation of the elements, as three rows of three, built once for a job.
-fn rotation_of(t: &[u32], w: Wholes) -> [[i64; 3]; 3]
+pub fn rotation_of(t: &[u32], w: Wholes) -> [[i64; 3]; 3]
     requires { ⌜ now t ≡ sines ⌝ }
     ensures { λ r. ⌜ r ≡ rotationFor w ⌝ }
 {

@@ -27,7 +27,7 @@ abbrev pub radian : ℕ
 radian = 683565276
 
 -- K(E) = E − floor((e∘sin E)·683,565,276 / 2^30), and such a floor is ∘; at E = 2^32 the sine is that of 0.
--- Kepler's equation is report 002's equation 10, nT = E − e sin E, and its listing's
+-- Kepler's equation is report 002's equation 10, nT = E − e sin E, and its listing's, FUNCTION EA: EA=E-(XN*YTIME)-(EPS*DSIN(E))
 unfoldable pub K : ℕ → ℕ → ℤ
 K e E = pos E -ℤ (pos e ∘ sineOf (E % turn) ∘ pos radian)
 

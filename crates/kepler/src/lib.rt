@@ -22,21 +22,21 @@ pub fn phase(period: u32, at: u64) -> Angle
 }
 
 // The mean anomaly of an eccentric one: K(E).
-fn mean(t: &[u32], e: u32, at: u64) -> i64
-    requires { ⌜ (now t ≡ sines) × (Eccentricity e) × (UpToATurn at) ⌝ }
-    ensures { λ r. ⌜ Is r (K e at) mostMean ⌝ }
+fn mean(t: &[u32], e: u32, anomaly: u64) -> i64
+    requires { ⌜ (now t ≡ sines) × (Eccentricity e) × (UpToATurn anomaly) ⌝ }
+    ensures { λ r. ⌜ Is r (K e anomaly) mostMean ⌝ }
 {
-    let units = (at % TURN) as u32;
+    let units = (anomaly % TURN) as u32;
     let es = fixed::unit(e as i64, sine::sine(t, Angle { units }));
-    (at as i64) - fixed::unit(es, RADIAN)
+    (anomaly as i64) - fixed::unit(es, RADIAN)
 }
 
 // Whether the low end moves to E: K(E) ≤ M.
-fn reaches(t: &[u32], e: u32, m: Angle, at: u64) -> bool
-    requires { ⌜ (now t ≡ sines) × (Eccentricity e) × (UpToATurn at) ⌝ }
-    ensures { λ r. ⌜ r ≡ reached e (m .units) at ⌝ }
+fn reaches(t: &[u32], e: u32, m: Angle, anomaly: u64) -> bool
+    requires { ⌜ (now t ≡ sines) × (Eccentricity e) × (UpToATurn anomaly) ⌝ }
+    ensures { λ r. ⌜ r ≡ reached e (m .units) anomaly ⌝ }
 {
-    mean(t, e, at) <= m.units as i64
+    mean(t, e, anomaly) <= m.units as i64
 }
 
 // Where the search of E ends, and how many middles it asked.

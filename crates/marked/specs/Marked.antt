@@ -3,7 +3,7 @@ use mathlib.Core.Path.{_≡_}
 use mathlib.Core.List.{List, [], _∷_}
 use Prim.Native.Nat.{ℕ, _*_, _^_}
 use lib.IntN.{ℤ, pos, negℤ}
-use Rattle.nearest.specs.Nearest.{metresOf, eccentricityOf, mostEccentric, decimal, number}
+use Rattle.nearest.specs.Nearest.{metresOf, eccentricityOf, decimal, number}
 use Rattle.angle.specs.Turn.{degreesOf}
 use Rattle.sine.specs.Sine.{sineOf}
 use Rattle.kepler.specs.Kepler.{keplerOf}
@@ -22,7 +22,7 @@ AllHold (given is said ∷ rest) = (given ≡ said) × AllHold rest
 abbrev pub half : ℕ
 half = eccentricityOf (decimal 5 10)
 
--- in document 01's order. The number that it says of e 0.95 has a name, since it bounds every e
+-- in document 01's order, each number as it stands there; that of e 0.95 is the one that `mostEccentric` names
 abbrev pub cases : List Case
 cases =
     sineOf 0 is pos 0
@@ -33,7 +33,7 @@ cases =
     ∷ pos (degreesOf (number 1)) is pos 11930465
     ∷ pos (degreesOf (number 5)) is pos 59652324
     ∷ pos (degreesOf (number 90)) is pos (2 ^ 30)
-    ∷ pos (eccentricityOf (decimal 95 100)) is pos mostEccentric
+    ∷ pos (eccentricityOf (decimal 95 100)) is pos 1020054733
     ∷ pos (metresOf (decimal 33934 10)) is pos 3393400
     ∷ pos (keplerOf half (2 ^ 31)) is pos (2 ^ 31)
     ∷ pos (keplerOf half 0) is pos 0

@@ -1,14 +1,15 @@
 -- Bounds, entry by entry: of a turn and a direction all are within one, of a row P or Q two within two and one within one.
 use mathlib.Core.Path.{_≡_}
 use mathlib.Core.List.{List}
-use Prim.Native.Nat.{ℕ, _*_}
+use Prim.Native.Nat.{ℕ, zero, suc, _*_, _<_}
+use native.Mathlib.Omega.{arith}
 use lib.Dec.{lit≤}
 use lib.IntN.{ℤ}
 use Rattle.fixed.specs.Scaled.{one, at, dotOf}
 use Rattle.fixed.specs.Within.{Within, Small, Entries}
-use Rattle.fixed.proofs.Within.{scaled-within, small-scaled, neg-within, add-within, sub-within, wider}
+use Rattle.fixed.proofs.Within.{small, scaled-within, small-scaled, add-within, wider}
 use Rattle.sine.proofs.Laws.{sine-small, cosine-small}
-use Rattle.rotation.specs.Rotation.{turnOf, UnitTurn, directionOf, rowP, rowQ}
+use Rattle.rotation.specs.Rotation.{turnOf, UnitTurn, directionOf, rowP, rowQ, rotationOf, rowOf}
 use Rattle.rotation.specs.declared.Turn.{Turn}
 
 pub turn-unit : (θ : ℕ) → UnitTurn (turnOf θ)
@@ -40,21 +41,9 @@ row-dot h k =
     (add-within (scaled-within (2 * one) (h .e₀) (k .e₀) (lit≤ tt)) (scaled-within (2 * one) (h .e₁) (k .e₁) (lit≤ tt)))
     (small-scaled (h .e₂) (k .e₂))
 
-module _ {ω Ω i : Turn} (hω : UnitTurn ω) (hΩ : UnitTurn Ω) (hi : UnitTurn i) where
-  pub p-row : Row (rowP ω Ω i)
-  unfolding rowP
-  p-row =
-      record {
-        e₀ = sub-within (small-scaled (hω .cos) (hΩ .cos)) (small-scaled (small-scaled (hω .sin) (hΩ .sin)) (hi .cos));
-        e₁ = add-within (small-scaled (hω .cos) (hΩ .sin)) (small-scaled (small-scaled (hω .sin) (hΩ .cos)) (hi .cos));
-        e₂ = small-scaled (hω .sin) (hi .sin);
-      }
-
-  pub q-row : Row (rowQ ω Ω i)
-  unfolding rowQ
-  q-row =
-      record {
-        e₀ = sub-within (neg-within (small-scaled (hω .sin) (hΩ .cos))) (small-scaled (small-scaled (hω .cos) (hΩ .sin)) (hi .cos));
-        e₁ = add-within (neg-within (small-scaled (hω .sin) (hΩ .sin))) (small-scaled (small-scaled (hω .cos) (hΩ .cos)) (hi .cos));
-        e₂ = small-scaled (hω .cos) (hi .sin);
-      }
+-- P and Q are rows 0 and 1
+pub plane-row : {ω Ω i : Turn} → UnitTurn ω → UnitTurn Ω → UnitTurn i → (k : ℕ) → k < 2 → Row (rowOf (rotationOf ω Ω i) k)
+unfolding rotationOf rowP rowQ
+plane-row hω hΩ hi zero h = record { e₀ = search small; e₁ = search small; e₂ = search small }
+plane-row hω hΩ hi (suc zero) h = record { e₀ = search small; e₁ = search small; e₂ = search small }
+plane-row hω hΩ hi (suc (suc k)) h = absurd (omega arith)

@@ -2,7 +2,7 @@
 use mathlib.Core.Path.{_≡_, _∙_}
 use mathlib.Core.List.{List, [], _∷_}
 use lib.IntN.{ℤ}
-use Rattle.fixed.specs.Scaled.{one, _∘_}
+use Rattle.fixed.specs.Scaled.{one, at, _∘_}
 use Rattle.fixed.specs.Within.{Small, Is}
 use Rattle.fixed.proofs.Machine.{loc, held, back, unit-is}
 
@@ -17,3 +17,8 @@ three h k l m = held (record { is = h .is ∙ times (back k tt) (back l tt) (bac
 
 pub row : {A : Type 0} {x y z u v w : A} → x ≡ u → y ≡ v → z ≡ w → _≡_ {A = List A} (x ∷ y ∷ z ∷ []) (u ∷ v ∷ w ∷ [])
 row e f g = cc
+
+-- the three entries of a row
+pub entries : {x y z : ℤ} (v : List ℤ) → x ≡ at v 0 → y ≡ at v 1 → z ≡ at v 2
+    → _≡_ {A = List ℤ} (x ∷ y ∷ z ∷ []) (at v 0 ∷ at v 1 ∷ at v 2 ∷ [])
+entries v e f g = row e f g

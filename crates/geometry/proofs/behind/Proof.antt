@@ -10,9 +10,10 @@ use lib.IntN.{ℤ, pos, negsuc, natAbs, _+ℤ_, _-ℤ_, _*ℤ_, negℤ}
 use lib.Signed.{ltZ}
 use Rattle.fixed.specs.Within.{Within, Is}
 use Rattle.fixed.proofs.Machine.{loc, fit, held, operand, product, sum, negation, told}
+use Rattle.elements.specs.Rounding.{mostAxis}
 use Rattle.geometry.specs.declared.Orbit.{Orbit}
 use Rattle.geometry.specs.declared.Place.{Place}
-use Rattle.geometry.specs.Ready.{longest, deepest}
+use Rattle.geometry.specs.Ready.{deepest}
 use Rattle.geometry.specs.Hidden.{behindOf}
 use Rattle.geometry.proofs.behind.Statement.{statement}
 use Rattle.geometry.proofs.behind.Tie as tie
@@ -67,8 +68,8 @@ deep-is {d} h e = held (negation (operand h tt)) tt .is ∙ opposite d e
 squared : {z : ℤ} {n : ℕ} → Within z n → T (ltb n (2 ^ 63)) → Is (loc z *ℤ loc z) (z *ℤ z) (n * n)
 squared h t = product (operand h t) (operand h t)
 
-module _ {x y : ℤ} (hx : Within x (2 * longest)) (hy : Within y longest) where
-  plane : Is (loc (loc x *ℤ loc x) +ℤ loc (loc y *ℤ loc y)) (x *ℤ x +ℤ y *ℤ y) (2 * longest * (2 * longest) + longest * longest)
+module _ {x y : ℤ} (hx : Within x (2 * mostAxis)) (hy : Within y mostAxis) where
+  plane : Is (loc (loc x *ℤ loc x) +ℤ loc (loc y *ℤ loc y)) (x *ℤ x +ℤ y *ℤ y) (2 * mostAxis * (2 * mostAxis) + mostAxis * mostAxis)
   plane = sum (held (squared hx tt) tt) (held (squared hy tt) tt)
 
   plane-is : loc (loc (loc x *ℤ loc x) +ℤ loc (loc y *ℤ loc y)) ≡ pos (natAbs x * natAbs x + natAbs y * natAbs y)

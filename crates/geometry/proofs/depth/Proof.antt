@@ -5,7 +5,8 @@ use lib.IntN.{_+ℤ_}
 use Rattle.fixed.specs.Scaled.{_∘_}
 use Rattle.fixed.specs.Within.{Is}
 use Rattle.fixed.proofs.Machine.{bounded, loc, fit, held, operand, sum, scaled-is}
-use Rattle.geometry.specs.Ready.{longest, deepest}
+use Rattle.elements.specs.Rounding.{mostAxis}
+use Rattle.geometry.specs.Ready.{deepest}
 use Rattle.geometry.specs.Hidden.{depthOf}
 use Rattle.geometry.proofs.depth.Statement.{statement}
 use Rattle.geometry.proofs.depth.Tie as tie
@@ -17,8 +18,8 @@ whole : (c : tie.After-scaled2) → let s = c .before .before .before .before .b
 whole c =
     let s = c .before .before .before .before .before .before .before in
     sum
-    (held (scaled-is (10 * longest) (c .before .before .before .scaled .ensures) (operand (s .pre .x) tt) (operand (s .pre .orbit .body .p) tt) tt) tt)
-    (held (scaled-is (5 * longest) (c .scaled2 .ensures) (operand (s .pre .y) tt) (operand (s .pre .orbit .body .q) tt) tt) tt)
+    (held (scaled-is (10 * mostAxis) (c .before .before .before .scaled .ensures) (operand (s .pre .x) tt) (operand (s .pre .orbit .body .p) tt) tt) tt)
+    (held (scaled-is (5 * mostAxis) (c .scaled2 .ensures) (operand (s .pre .y) tt) (operand (s .pre .orbit .body .q) tt) tt) tt)
 
 scaled-requires : tie.Need-scaled-requires
 scaled-requires c κs = search (needs, bounded)

@@ -1,15 +1,14 @@
 -- `geometry::minor` meets its contract: q is at most one.
 use mathlib.Core.Path.{ap, _∙_}
 use Prim.Native.Nat.{ℕ}
-use native.Mathlib.Nat.{mul-le-mul}
 use native.Mathlib.Omega.{arith}
 use lib.IntN.{pos}
 use Rattle.fixed.specs.Scaled.{_∘_}
 use Rattle.fixed.specs.Within.{Small}
 use Rattle.fixed.proofs.Machine.{fit, held, plain, cast, product, scaled-is}
-use Rattle.geometry.specs.Ready.{longest}
+use Rattle.elements.specs.Rounding.{mostAxis}
 use Rattle.geometry.specs.Prepared.{minorOf}
-use Rattle.geometry.proofs.Bounds.{root-small}
+use Rattle.geometry.proofs.Bounds.{root-small, square-below}
 use borrow.Author.Needs.{needs}
 use Rattle.geometry.proofs.minor.Statement.{statement}
 use Rattle.geometry.proofs.minor.Tie as tie
@@ -21,10 +20,10 @@ cast-e : tie.Need-cast-e
 cast-e c = search needs
 
 mul-whole-root : tie.Need-mul-whole-root
-mul-whole-root c = omega (arith, mul-le-mul (c .before .pre .eccentricity) (c .before .pre .eccentricity))
+mul-whole-root c = omega (arith, square-below _ (c .before .pre .eccentricity))
 
 sub-whole-root : tie.Need-sub-whole-root
-sub-whole-root c = omega (arith, mul-le-mul (c .before .pre .eccentricity) (c .before .pre .eccentricity))
+sub-whole-root c = omega (arith, square-below _ (c .before .pre .eccentricity))
 
 whole-root-requires : tie.Need-whole-root-requires
 whole-root-requires c κs = search needs
@@ -43,7 +42,7 @@ unfolding minorOf
 returns c =
     let root = c .before .before in
     let s = root .before .before in
-    held (scaled-is longest (c .scaled .ensures) (cast (s .pre .axis) tt) (cast (q-small root .within) tt) tt) tt .is
+    held (scaled-is mostAxis (c .scaled .ensures) (cast (s .pre .axis) tt) (cast (q-small root .within) tt) tt) tt .is
     ∙ ap (λ (q : ℕ). pos (s .args .w .axis) ∘ pos q) (root .whole-root .ensures)
 
 pub minor-spec : {M : Type 1} → statement M

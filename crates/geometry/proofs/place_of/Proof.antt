@@ -6,12 +6,12 @@ use mir.Syntax.{w64}
 use mir.Val.{toZ}
 use Rattle.fixed.specs.Scaled.{one}
 use Rattle.fixed.specs.Within.{Is}
-use Rattle.fixed.proofs.Machine.{loc, fit, held, called, cast, operand, product, difference, scaled-is}
+use Rattle.fixed.proofs.Machine.{bounded, loc, fit, held, called, cast, operand, product, difference, scaled-is}
 use Rattle.nearest.specs.Nearest.{mostEccentric}
 use Rattle.sine.specs.Sine.{sineOf, cosineOf}
 use Rattle.sine.proofs.Laws.{sine-small, cosine-small}
+use Rattle.elements.specs.Rounding.{mostAxis}
 use Rattle.geometry.specs.declared.Place.{Place}
-use Rattle.geometry.specs.Ready.{longest}
 use Rattle.geometry.specs.Placed.{anomalyOf, placeOf}
 use borrow.Author.Needs.{needs}
 use Rattle.geometry.proofs.place_of.Statement.{statement}
@@ -58,10 +58,14 @@ scaled-requires c κs =
     let s = c .before .before .before .before .before .before .before in
     fit (product (operand (s .pre .orbit .ellipse .axis) tt) (held (reach-is (c .before .before)) tt)) tt
 
+-- half of either axis times sin E fits
 scaled-requires-2 : tie.Need-scaled-requires-2
 scaled-requires-2 c κs =
     let s = c .before .before .before .before .before .before .before .before .before in
-    fit (product (operand (s .pre .orbit .ellipse .minor) tt) (sine-is (c .before .before .before .before))) tt
+    let axis = operand (s .pre .orbit .ellipse .axis) tt .bound in
+    let minor = operand (s .pre .orbit .ellipse .minor) tt .bound in
+    let sin = sine-is (c .before .before .before .before) .bound in
+    search bounded
 
 returns : tie.Need-returns
 unfolding placeOf
@@ -70,8 +74,8 @@ returns c =
     let reads = first .before .before .before in
     let s = reads .before .before .before .before .before in
     both
-    (held (scaled-is (2 * longest) (first .scaled .ensures) (operand (s .pre .orbit .ellipse .axis) tt) (held (reach-is reads) tt) tt) tt .is)
-    (held (scaled-is longest (c .scaled2 .ensures) (operand (s .pre .orbit .ellipse .minor) tt) (sine-is reads) tt) tt .is)
+    (held (scaled-is (2 * mostAxis) (first .scaled .ensures) (operand (s .pre .orbit .ellipse .axis) tt) (held (reach-is reads) tt) tt) tt .is)
+    (held (scaled-is mostAxis (c .scaled2 .ensures) (operand (s .pre .orbit .ellipse .minor) tt) (sine-is reads) tt) tt .is)
 
 pub place-of-spec : {M : Type 1} → statement M
 place-of-spec =

@@ -1,22 +1,18 @@
 -- `geometry::up` meets its contract: the sum of three products of at most one fits.
-use mathlib.Core.Path.{_≡_, ap, _∙_}
+use mathlib.Core.Path.{ap, _∙_}
 use mathlib.Core.List.{List}
 use Prim.Native.Nat.{_+_}
 use lib.Dec.{lit≤}
 use lib.IntN.{ℤ, pos, negℤ, _-ℤ_}
-use lib.Signed.{leZ}
 use Rattle.fixed.specs.Scaled.{one, dotOf}
 use Rattle.fixed.specs.Within.{Is}
 use Rattle.fixed.proofs.Within.{wider-entries}
-use Rattle.fixed.proofs.Machine.{loc, fit, held, called, negation, back}
+use Rattle.fixed.proofs.Machine.{loc, fit, held, called, negation, back, compared}
 use Rattle.geometry.specs.Visible.{zenithOf, upAt}
 use Rattle.geometry.proofs.Bounds.{zenith-entries, rise-within}
 use borrow.Author.Needs.{needs}
 use Rattle.geometry.proofs.up.Statement.{statement}
 use Rattle.geometry.proofs.up.Tie as tie
-
-no-less : {x y v w : ℤ} → x ≡ v → y ≡ w → leZ x y ≡ leZ v w
-no-less e f = cc
 
 -- −(ux∘Ex + uy∘Ey + uz∘Ez), as the machine holds it
 rise-is : (c : tie.After-dot) → let s = c .before .before .before .before .before in
@@ -41,7 +37,7 @@ returns : tie.Need-returns
 unfolding upAt
 returns c =
     let s = c .before .before .before .before .before .before .before in
-    no-less (back (s .pre .orbit .station .least) tt) (held (rise-is (c .before .before)) tt .is)
+    compared (back (s .pre .orbit .station .least) tt) (held (rise-is (c .before .before)) tt .is)
 
 pub up-spec : {M : Type 1} → statement M
 up-spec = tie.close (tie.spec zenith-requires dot-requires sub-rise returns)

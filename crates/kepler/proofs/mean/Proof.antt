@@ -21,17 +21,17 @@ use Rattle.kepler.proofs.mean.Tie as tie
 e-is : (e : ℕ) → Eccentricity e → Is (toZ w64 e) (pos e) one
 e-is e h = cast (le-trans h (lit≤ tt)) tt
 
-sine-is : (c : tie.After-sine) → Is (loc (c .sine .result)) (sineOf (c .before .before .args .at % turn)) one
-sine-is c = held (called (c .sine .ensures) (sine-small (c .before .before .args .at % turn))) tt
+sine-is : (c : tie.After-sine) → Is (loc (c .sine .result)) (sineOf (c .before .before .args .anomaly % turn)) one
+sine-is c = held (called (c .sine .ensures) (sine-small (c .before .before .args .anomaly % turn))) tt
 
-shift-is : (c : tie.After-unit) → let s = c .before .before .before in Is (loc (c .unit .result)) (pos (s .args .e) ∘ sineOf (s .args .at % turn)) one
+shift-is : (c : tie.After-unit) → let s = c .before .before .before in Is (loc (c .unit .result)) (pos (s .args .e) ∘ sineOf (s .args .anomaly % turn)) one
 shift-is c =
     let s = c .before .before .before in
     held (unit-is (c .unit .ensures) (e-is (s .args .e) (s .pre .1) .is) (sine-is (c .before) .is)) tt
 
 mean-is : (c : tie.After-unit2)
     → let s = c .before .before .before .before in
-    Is (toZ w64 (s .args .at) -ℤ loc (c .unit2 .result)) (pos (s .args .at) -ℤ (pos (s .args .e) ∘ sineOf (s .args .at % turn) ∘ pos radian)) mostMean
+    Is (toZ w64 (s .args .anomaly) -ℤ loc (c .unit2 .result)) (pos (s .args .anomaly) -ℤ (pos (s .args .e) ∘ sineOf (s .args .anomaly % turn) ∘ pos radian)) mostMean
 mean-is c =
     let s = c .before .before .before .before in
     difference (cast (s .pre .2) tt) (held (unit-is (c .unit2 .ensures) (shift-is (c .before) .is) refl) tt)

@@ -2,9 +2,10 @@
 use mathlib.Core.Path.{refl}
 use native.Mathlib.Nat.{mod-lt}
 use native.Mathlib.Omega.{arith}
+use lib.Dec.{lit≤}
 use borrow.Author.Needs.{needs}
 use Rattle.kepler.specs.Kepler.{phaseOf}
-use Rattle.kepler.proofs.Laws.{phase-lt}
+use Rattle.kepler.proofs.Laws.{part-lt}
 use Rattle.kepler.proofs.phase.Statement.{statement}
 use Rattle.kepler.proofs.phase.Tie as tie
 
@@ -18,8 +19,7 @@ div-units : tie.Need-div-units
 div-units c = search needs
 
 cast-units : tie.Need-cast-units
-unfolding phaseOf
-cast-units c = record { fits = phase-lt (c .args .period) (c .args .at) (c .pre) }
+cast-units c = record { fits = part-lt (c .args .at) (c .pre) (lit≤ tt) }
 
 returns : tie.Need-returns
 unfolding phaseOf

@@ -1,11 +1,8 @@
 -- `kepler::reaches` meets its contract: both sides of the test are the numbers that they stand for.
-use mathlib.Core.Path.{_≡_}
 use Prim.Native.Nat.{_≤_}
 use native.Mathlib.Omega.{arith}
-use lib.IntN.{ℤ}
-use lib.Signed.{leZ}
 use borrow.Author.Needs.{needs}
-use Rattle.fixed.proofs.Machine.{held, cast}
+use Rattle.fixed.proofs.Machine.{held, cast, compared}
 use Rattle.angle.specs.Turn.{turn}
 use Rattle.kepler.specs.Kepler.{reached}
 use Rattle.kepler.proofs.reaches.Statement.{statement}
@@ -16,10 +13,6 @@ mean-requires c κs = search needs
 
 cast-result : tie.Need-cast-result
 cast-result c = search needs
-
--- the test of what stands for two numbers is the test of the numbers
-compared : {x v y w : ℤ} → x ≡ v → y ≡ w → leZ x y ≡ leZ v w
-compared e f = cc
 
 returns : tie.Need-returns
 unfolding reached

@@ -2,7 +2,7 @@
 use borrow.Author.Needs.{needs}
 use Rattle.fixed.proofs.Machine.{back}
 use Rattle.rotation.specs.Rotation.{directionOf}
-use Rattle.rotation.proofs.Stored.{two, row}
+use Rattle.rotation.proofs.Stored.{two, entries}
 use Rattle.rotation.proofs.direction.Statement.{statement}
 use Rattle.rotation.proofs.direction.Tie as tie
 
@@ -19,7 +19,7 @@ returns c =
     let s = first .before .before .before in
     let α = s .pre .0 in
     let δ = s .pre .1 in
-    row
+    entries (directionOf (s .args .ascension) (s .args .declination))
     (two (first .unit .ensures) (δ .cos) (α .cos) .is)
     (two (c .before .unit2 .ensures) (δ .cos) (α .sin) .is)
     (back (δ .sin) tt)

@@ -1,7 +1,7 @@
 -- `rotation::row_p` meets its contract, entry by entry: what is read back is what was stored.
 use Rattle.fixed.proofs.Machine.{bounded, held, sum, difference}
 use Rattle.rotation.specs.Rotation.{rowP}
-use Rattle.rotation.proofs.Stored.{two, three, row}
+use Rattle.rotation.proofs.Stored.{two, three, entries}
 use borrow.Author.Needs.{needs}
 use Rattle.rotation.proofs.row_p.Statement.{statement}
 use Rattle.rotation.proofs.row_p.Tie as tie
@@ -38,7 +38,7 @@ returns c =
     let ω = s .pre .0 in
     let Ω = s .pre .1 in
     let i = s .pre .2 in
-    row
+    entries (rowP (s .args .peri) (s .args .node) (s .args .incl))
     (held (difference (two (before₁ .unit .ensures) (ω .cos) (Ω .cos)) (three (after₁ .triple .ensures) (ω .sin) (Ω .sin) (i .cos))) tt .is)
     (held (sum (two (before₂ .unit2 .ensures) (ω .cos) (Ω .sin)) (three (after₂ .triple2 .ensures) (ω .sin) (Ω .cos) (i .cos))) tt .is)
     (two (c .unit3 .ensures) (ω .sin) (i .sin) .is)

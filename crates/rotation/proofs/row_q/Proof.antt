@@ -1,7 +1,7 @@
 -- `rotation::row_q` meets its contract, entry by entry: what is read back is what was stored.
 use Rattle.fixed.proofs.Machine.{fit, held, sum, difference, negation}
 use Rattle.rotation.specs.Rotation.{rowQ}
-use Rattle.rotation.proofs.Stored.{two, three, row}
+use Rattle.rotation.proofs.Stored.{two, three, entries}
 use borrow.Author.Needs.{needs}
 use Rattle.rotation.proofs.row_q.Statement.{statement}
 use Rattle.rotation.proofs.row_q.Tie as tie
@@ -44,7 +44,7 @@ returns c =
     let ω = s .pre .0 in
     let Ω = s .pre .1 in
     let i = s .pre .2 in
-    row
+    entries (rowQ (s .args .peri) (s .args .node) (s .args .incl))
     (held (difference (held (negation (two (before₁ .unit .ensures) (ω .sin) (Ω .cos))) tt) (three (after₁ .triple .ensures) (ω .cos) (Ω .sin) (i .cos))) tt .is)
     (held (sum (held (negation (two (before₂ .unit2 .ensures) (ω .sin) (Ω .sin))) tt) (three (after₂ .triple2 .ensures) (ω .cos) (Ω .cos) (i .cos))) tt .is)
     (two (c .unit3 .ensures) (ω .cos) (i .sin) .is)

@@ -1,7 +1,7 @@
 -- `rotation::row_w` meets its contract, entry by entry: what is read back is what was stored.
 use Rattle.fixed.proofs.Machine.{fit, held, back, negation}
 use Rattle.rotation.specs.Rotation.{rowW}
-use Rattle.rotation.proofs.Stored.{two, row}
+use Rattle.rotation.proofs.Stored.{two, entries}
 use borrow.Author.Needs.{needs}
 use Rattle.rotation.proofs.row_w.Statement.{statement}
 use Rattle.rotation.proofs.row_w.Tie as tie
@@ -22,7 +22,7 @@ returns c =
     let s = first .before .before .before in
     let Ω = s .pre .0 in
     let i = s .pre .1 in
-    row
+    entries (rowW (s .args .node) (s .args .incl))
     (two (first .unit .ensures) (Ω .sin) (i .sin) .is)
     (held (negation (two (c .before .unit2 .ensures) (Ω .cos) (i .sin))) tt .is)
     (back (i .cos) tt)

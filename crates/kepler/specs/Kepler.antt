@@ -14,7 +14,7 @@ use Rattle.halving.specs.Halving.{halve}
 abbrev pub Period : ℕ → Type 0
 Period p = 0 < p
 
--- M = floor((t mod p)·2^32/p); with a day for p the station's turn too (report 002, equation 7: one turn a day)
+-- M = floor((t mod p)·2^32/p); with a day for p the station's turn too (source 002, equation 7: one turn a day)
 unfoldable pub phaseOf : ℕ → ℕ → ℕ
 phaseOf p t = t % p * turn / p
 
@@ -27,7 +27,7 @@ abbrev pub radian : ℕ
 radian = 683565276
 
 -- K(E) = E − floor((e∘sin E)·683,565,276 / 2^30), and such a floor is ∘; at E = 2^32 the sine is that of 0.
--- Kepler's equation is report 002's equation 10, nT = E − e sin E, and its listing's, FUNCTION EA: EA=E-(XN*YTIME)-(EPS*DSIN(E))
+-- Kepler's equation is source 002's equation 10, nT = E − e sin E, and its listing's, FUNCTION EA: EA=E-(XN*YTIME)-(EPS*DSIN(E))
 unfoldable pub K : ℕ → ℕ → ℤ
 K e E = pos E -ℤ (pos e ∘ sineOf (E % turn) ∘ pos radian)
 

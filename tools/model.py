@@ -1,7 +1,7 @@
 """Document 01's rules in exact arithmetic: from an orbit record to where the craft is, whether it is hidden and whether the planet is up.
 
-Written from document 01 alone, in its order and letters, one function for each rule; it shares nothing with the crates, so that their
-numbers can be held against it. Whole numbers and fractions only. // is Python's floor, toward minus infinity. The record is
+One function for each rule, in document 01's order and letters. It uses nothing of the crates, so that their numbers can be held against it;
+but it is no independent reading of document 01 (docs/DECISIONS.md, "The stored output"). Whole numbers and fractions only. // is Python's floor, toward minus infinity. The record is
 supposed to be one that document 01 accepts. `at(orbit(record), t)` is the whole of it.
 """
 from collections import namedtuple

@@ -23,7 +23,7 @@ use Rattle.refusal.specs.declared.Verdict.the-variants as verdict
 use Rattle.refusal.proofs.Order.{when-refused, first-each, first-exactly, passed-exactly}
 use Rattle.elements.specs.Field.{bitsIn, floatOf}
 use Rattle.elements.specs.Closest.{closestOf}
-use Rattle.elements.specs.Reading.{WholeRecord, elementsOf, orbitRows, skyRows, rowsFrom, recordRows, readFrom, readingOf, Returns}
+use Rattle.elements.specs.Reading.{WholeRecord, elementsOf, fieldRows, rowsFrom, recordRows, readFrom, readingOf, Returns}
 use Rattle.elements.specs.Accepted.{Accepted}
 use Rattle.elements.proofs.Distance.{distance-positive}
 use Rattle.elements.proofs.Sterbenz.{exact-from-half}
@@ -63,7 +63,7 @@ module _ (s : List ℕ) where
 
   -- refusal 5 the closest distance, which is a finite number above 0
   pub refused-distance : (d : Float) → readingOf s ≡ Refused (TooClose d) → (d ≡ closestOf (floatOf s 1) (floatOf s 2)) × T (positive d)
-  unfolding orbitRows skyRows elementsOf rowAt
+  unfolding fieldRows elementsOf rowAt
   refused-distance d h =
       let g = refused-exactly (TooClose d) .0 h in
       let own = closestOf (floatOf s 1) (floatOf s 2) in

@@ -7,7 +7,7 @@ use native.Mathlib.Omega.{arith}
 use lib.IntN.{ℤ}
 use lib.Dec.{T, ltb, eqb, ltb→lt, eqb→eq, lit≤}
 use lib.Ieee.{Float, nan, inf, fin, up, down, lt, eq, le, neg, round}
-use lib.Ieee.Fits.{down-pos, and-l, and-r}
+use lib.Ieee.Fits.{down-pos, and-i, and-l, and-r}
 use lib.Ieee.Positive.{num, den, through}
 use Rattle.nearest.specs.Nearest.{UpTo, nearestOf, decimal, number}
 use Rattle.nearest.proofs.Nearest.{nearestOf-mono}
@@ -76,11 +76,10 @@ module _ (w l h : ℕ) (k d : ℤ) (L : l * up k * down d ≤ h * up d * down k)
       let b = le x (fin false h d) in
       between s x (and-l a b t) (and-r a b t)
 
-  below-ranged : (s : Bool) (x : Float) → T (below (fin s l k) (fin false h d) x) → Ranged w x (fin false h d)
-  below-ranged s x t =
-      let a = le (fin s l k) x in
-      let b = lt x (fin false h d) in
-      between s x (and-l a b t) (lt→le x (fin false h d) (and-r a b t))
+-- what is below an end is up to it
+below-within : (low high x : Float) → T (below low high x) → T (within low high x)
+below-within low high x t =
+    and-i (le low x) (le x high) (and-l (le low x) (lt x high) t) (lt→le x high (and-r (le low x) (lt x high) t))
 
 -- ---- the ranges of the fields
 
@@ -98,7 +97,7 @@ inclination-range x h = within-ranged 9 _ _ _ _ (lit≤ tt) (lit≤ tt) false x 
 
 pub turn-range : (x : Float) → T (turnIn x) → Ranged 9 x (number 360)
 unfolding decimal round
-turn-range x h = below-ranged 9 _ _ _ _ (lit≤ tt) (lit≤ tt) false x h
+turn-range x h = within-ranged 9 _ _ _ _ (lit≤ tt) (lit≤ tt) false x (below-within (number 0) (number 360) x h)
 
 pub period-range : (x : Float) → T (periodIn x) → Ranged 21 x (number 2000000)
 unfolding decimal round

@@ -21,7 +21,7 @@ use Rattle.refusal.proofs.Order.{not-both, when-refused, when-passed, when-orde
 use Rattle.refusal.proofs.Order.Each.{done, _also_}
 use Rattle.elements.specs.Field.{fieldAt, HasField, bitsIn, floatOf, judge}
 use Rattle.elements.specs.Closest.{closestOf}
-use Rattle.elements.specs.Reading.{WholeRecord, elementsOf, orbitRows, skyRows, recordRows, Returns}
+use Rattle.elements.specs.Reading.{WholeRecord, elementsOf, fieldRows, recordRows, Returns}
 use Rattle.elements.specs.Accepted.{Accepted}
 
 -- ---- a row's refusals: their order, and what they hand back
@@ -75,7 +75,7 @@ module _ (s : List ℕ) (k : ℕ) where
 -- ---- the table
 
 pub told : (s : List ℕ) → Each (Told s) 0 (recordRows s)
-unfolding orbitRows skyRows elementsOf
+unfolding fieldRows elementsOf
 told s =
     let e = elementsOf s in
     let d = closestOf (e .axis) (e .eccentricity) in
@@ -101,7 +101,7 @@ pub ordered : (s : List ℕ) → Ordered (recordRows s)
 ordered s = each-weaker (λ n r t. t .0) (told s)
 
 pub passed-accepted : (s : List ℕ) → Passes (recordRows s) → Accepted (elementsOf s)
-unfolding orbitRows skyRows elementsOf rowAt
+unfolding fieldRows elementsOf rowAt
 passed-accepted s p =
     let e = elementsOf s in
     let d = closestOf (e .axis) (e .eccentricity) in

@@ -52,9 +52,9 @@ lengthRow s = when (not (eqb (length s) 136)) Length
 abbrev pub wordRow : List ℕ → Verdict
 wordRow s = when (not (eqb (readOf 4 s 4) 0)) Word
 
--- 3 and 4 together: fields are tried in number order, 3 before 4 for each. Fields 1 to 7
-unfoldable pub orbitRows : List ℕ → Elements → List Verdict
-orbitRows s e =
+-- 3 and 4 together: fields are tried in number order, 3 before 4 for each
+unfoldable pub fieldRows : List ℕ → Elements → List Verdict
+fieldRows s e =
     fieldRow s 1 (e .axis) axisIn
     ∷ fieldRow s 2 (e .eccentricity) eccentricityIn
     ∷ fieldRow s 3 (e .inclination) inclinationIn
@@ -62,12 +62,7 @@ orbitRows s e =
     ∷ fieldRow s 5 (e .periapsis) turnIn
     ∷ fieldRow s 6 (e .period) periodIn
     ∷ fieldRow s 7 (e .radius) radiusIn
-    ∷ []
-
--- fields 8 to 13
-unfoldable pub skyRows : List ℕ → Elements → List Verdict
-skyRows s e =
-    fieldRow s 8 (e .ascension) turnIn
+    ∷ fieldRow s 8 (e .ascension) turnIn
     ∷ fieldRow s 9 (e .declination) latitudeIn
     ∷ fieldRow s 10 (e .latitude) latitudeIn
     ∷ fieldRow s 11 (e .longitude) turnIn
@@ -83,7 +78,7 @@ closeRow e =
 
 -- 2 to 5 of a record with the elements e
 abbrev pub rowsFrom : List ℕ → Elements → List Verdict
-rowsFrom s e = wordRow s ∷ orbitRows s e ++ skyRows s e ++ closeRow e ∷ []
+rowsFrom s e = wordRow s ∷ fieldRows s e ++ closeRow e ∷ []
 
 -- 1 to 5 of a record
 abbrev pub recordRows : List ℕ → List Verdict

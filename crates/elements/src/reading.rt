@@ -1,6 +1,7 @@
 // The orbit record's elements, or why they are turned away.
 ghost use mathlib.Core.Path.{_≡_};
-ghost use Rattle.elements.specs.Reading.{WholeRecord, elementsOf, wordRow, orbitRows, skyRows, closeRow, rowsFrom, readingOf};
+ghost use lib.ListN.{take, drop};
+ghost use Rattle.elements.specs.Reading.{WholeRecord, elementsOf, wordRow, fieldRows, closeRow, rowsFrom, readingOf};
 ghost use Rattle.refusal.specs.Rows.{first};
 use crate::closest::closest;
 use crate::fields::field;
@@ -67,7 +68,7 @@ fn word_row(s: &[u8]) -> Verdict
 // Fields 1 to 7, in number order.
 fn orbit(s: &[u8], e: Elements) -> Verdict
     requires { ⌜ WholeRecord (now s) ⌝ }
-    ensures { λ v. ⌜ v ≡ first (orbitRows (now (s .entry)) e) ⌝ }
+    ensures { λ v. ⌜ v ≡ first (take 7 (fieldRows (now (s .entry)) e)) ⌝ }
 {
     let v = field(s, 1, e.axis, 100.0, 250000.0);
     let v = then(v, field(s, 2, e.eccentricity, 0.0, 0.95));
@@ -81,7 +82,7 @@ fn orbit(s: &[u8], e: Elements) -> Verdict
 // Fields 8 to 13, in number order.
 fn sky(s: &[u8], e: Elements) -> Verdict
     requires { ⌜ WholeRecord (now s) ⌝ }
-    ensures { λ v. ⌜ v ≡ first (skyRows (now (s .entry)) e) ⌝ }
+    ensures { λ v. ⌜ v ≡ first (drop 7 (fieldRows (now (s .entry)) e)) ⌝ }
 {
     let v = turn(s, 8, e.ascension);
     let v = then(v, field(s, 9, e.declination, -90.0, 90.0));

@@ -5,6 +5,7 @@ use mathlib.Core.Logic.{_↔_}
 use mathlib.Core.Bool.{Bool, true, false}
 use mathlib.Core.List.{List, [], _∷_, _++_}
 use native.Mathlib.Omega.{arith}
+use lib.ListN.{take, drop, take-append-drop}
 use Rattle.refusal.specs.Refusal.{orderOf}
 use Rattle.refusal.specs.Rows.{when, _then_, first, rowAt, Gives, Passes}
 use Rattle.refusal.specs.declared.Refusal.{Refusal}
@@ -32,6 +33,10 @@ pub first-append : (xs ys : List Verdict) → first (xs ++ ys) ≡ first xs then
 unfolding first _then_
 first-append [] ys = refl
 first-append (x ∷ xs) ys = ap (λ (v : Verdict). x then v) (first-append xs ys) ∙ sym (then-assoc x (first xs) (first ys))
+
+-- of a table cut anywhere
+pub first-split : (k : ℕ) (vs : List Verdict) → first (take k vs) then first (drop k vs) ≡ first vs
+first-split k vs = sym (first-append (take k vs) (drop k vs)) ∙ ap first (take-append-drop k vs)
 
 -- ---- a row and its test
 

@@ -3,7 +3,7 @@ use lib.Ieee.{round, ofBits}
 use Rattle.nearest.specs.Nearest.{decimal}
 use Rattle.refusal.specs.Rows.{first}
 use Rattle.refusal.proofs.Order.{then-assoc, then-passed}
-use Rattle.elements.specs.Reading.{orbitRows}
+use Rattle.elements.specs.Reading.{fieldRows}
 use borrow.Author.Needs.{needs}
 use Rattle.elements.proofs.reading.orbit.Statement.{statement}
 use Rattle.elements.proofs.reading.orbit.Tie as tie
@@ -48,7 +48,7 @@ then-requires-6 : tie.Need-then-requires-6
 then-requires-6 c κs = search needs
 
 returns : tie.Need-returns
-unfolding orbitRows first decimal round ofBits
+unfolding fieldRows first decimal round ofBits
 returns c = simp (c .then6 .ensures, c .before .field5 .ensures, c .before .before .then5 .ensures, c .before .before .before .field4 .ensures, c .before .before .before .before .then4 .ensures, c .before .before .before .before .before .turn2 .ensures, c .before .before .before .before .before .before .then3 .ensures, c .before .before .before .before .before .before .before .turn .ensures, c .before .before .before .before .before .before .before .before .then2 .ensures, c .before .before .before .before .before .before .before .before .before .field3 .ensures, c .before .before .before .before .before .before .before .before .before .before .then .ensures, c .before .before .before .before .before .before .before .before .before .before .before .field2 .ensures, c .before .before .before .before .before .before .before .before .before .before .before .before .field .ensures, then-assoc, then-passed)
 
 pub orbit-spec : {M : Type 1} → statement M

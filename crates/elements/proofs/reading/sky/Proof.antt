@@ -3,7 +3,7 @@ use lib.Ieee.{round, ofBits, neg}
 use Rattle.nearest.specs.Nearest.{decimal}
 use Rattle.refusal.specs.Rows.{first}
 use Rattle.refusal.proofs.Order.{then-assoc, then-passed}
-use Rattle.elements.specs.Reading.{skyRows}
+use Rattle.elements.specs.Reading.{fieldRows}
 use borrow.Author.Needs.{needs}
 use Rattle.elements.proofs.reading.sky.Statement.{statement}
 use Rattle.elements.proofs.reading.sky.Tie as tie
@@ -42,7 +42,7 @@ then-requires-5 : tie.Need-then-requires-5
 then-requires-5 c κs = search needs
 
 returns : tie.Need-returns
-unfolding skyRows first decimal round ofBits neg
+unfolding fieldRows first decimal round ofBits neg
 returns c = simp (c .then5 .ensures, c .before .field3 .ensures, c .before .before .then4 .ensures, c .before .before .before .turn3 .ensures, c .before .before .before .before .then3 .ensures, c .before .before .before .before .before .turn2 .ensures, c .before .before .before .before .before .before .then2 .ensures, c .before .before .before .before .before .before .before .field2 .ensures, c .before .before .before .before .before .before .before .before .then .ensures, c .before .before .before .before .before .before .before .before .before .field .ensures, c .before .before .before .before .before .before .before .before .before .before .turn .ensures, then-assoc, then-passed)
 
 pub sky-spec : {M : Type 1} → statement M

@@ -69,9 +69,13 @@ keplerRow e w = when (not (settlesAt (orbitWith e) (w .t0))) refusal.Kepler
 
 -- ---- the table
 
--- 6 to 10, of a job with the elements e
+-- 8 to 10, of a job with the elements e
+abbrev pub lentRows : Elements → Window → ℕ → ℕ → List Verdict
+lentRows e w q room = questionRow q ∷ roomRow w room ∷ keplerRow e w ∷ []
+
+-- 6 to 10
 abbrev pub jobRows : Elements → Window → ℕ → ℕ → List Verdict
-jobRows e w q room = windowRow w ∷ stepRow w ∷ questionRow q ∷ roomRow w room ∷ keplerRow e w ∷ []
+jobRows e w q room = windowRow w ∷ stepRow w ∷ lentRows e w q room
 
 -- 1 to 10, of a record and a list with room for so many bytes
 unfoldable pub tableOf : List ℕ → ℕ → List Verdict

@@ -2,12 +2,12 @@
 ghost use mathlib.Core.Path.{_≡_};
 ghost use lib.ListN.{length};
 ghost use lib.Seq.{sets};
-ghost use Rattle.refusal.specs.Rows.{_then_};
+ghost use Rattle.refusal.specs.Rows.{_then_, first};
 ghost use Rattle.elements.specs.Accepted.{Accepted};
 ghost use Rattle.elements.specs.Reading.{WholeRecord};
 ghost use Rattle.finder.specs.Samples.{Good};
 ghost use Rattle.finder.specs.Records.{HasRoom};
-ghost use Rattle.job.specs.Table.{windowOf, questionOf, badWindow, badStep, badQuestion, noRoom, windowRow, stepRow, questionRow, roomRow, keplerRow};
+ghost use Rattle.job.specs.Table.{windowOf, questionOf, badWindow, badStep, badQuestion, noRoom, windowRow, stepRow, questionRow, roomRow, keplerRow, lentRows, jobRows};
 ghost use Rattle.job.specs.Outcome.{answersOf, outcomeFrom, recordsFrom, outcomeOf, listAfter, intervalsOf};
 ghost use Rattle.job.specs.Reply.{jobOf, closingOf, replyOf};
 use elements::reading::Elements;
@@ -115,8 +115,8 @@ fn found(e: Elements, question: u32, w: Window, list: &mut [u8]) -> Outcome
 // The job of a window and a step that are let through.
 fn wanted(e: Elements, question: u32, w: Window, list: &mut [u8]) -> Outcome
     requires { ⌜ (Accepted e) × (Good w) ⌝ }
-    ensures { λ r. ⌜ r ≡ outcomeFrom (lentVerdict e w question (length (now (list .entry)))) (answersOf e question) w ⌝ }
-    ensures { λ _. ⌜ now (list .exit) ≡ sets (now (list .entry)) 0 (recordsFrom (lentVerdict e w question (length (now (list .entry)))) (answersOf e question) w) ⌝ }
+    ensures { λ r. ⌜ r ≡ outcomeFrom (first (lentRows e w question (length (now (list .entry))))) (answersOf e question) w ⌝ }
+    ensures { λ _. ⌜ now (list .exit) ≡ sets (now (list .entry)) 0 (recordsFrom (first (lentRows e w question (length (now (list .entry))))) (answersOf e question) w) ⌝ }
 {
     match asked(w, question, list.len()) {
         Verdict::Refused(r) => Outcome::Refused(r),
@@ -127,8 +127,8 @@ fn wanted(e: Elements, question: u32, w: Window, list: &mut [u8]) -> Outcome
 // The job of elements that were read.
 fn accepted(s: &[u8], e: Elements, list: &mut [u8]) -> Outcome
     requires { ⌜ (WholeRecord (now s)) × (Accepted e) ⌝ }
-    ensures { λ r. ⌜ r ≡ outcomeFrom (jobVerdict e (now (s .entry)) (length (now (list .entry)))) (answersOf e (questionOf (now (s .entry)))) (windowOf (now (s .entry))) ⌝ }
-    ensures { λ _. ⌜ now (list .exit) ≡ sets (now (list .entry)) 0 (recordsFrom (jobVerdict e (now (s .entry)) (length (now (list .entry)))) (answersOf e (questionOf (now (s .entry)))) (windowOf (now (s .entry)))) ⌝ }
+    ensures { λ r. ⌜ r ≡ outcomeFrom (first (jobRows e (windowOf (now (s .entry))) (questionOf (now (s .entry))) (length (now (list .entry))))) (answersOf e (questionOf (now (s .entry)))) (windowOf (now (s .entry))) ⌝ }
+    ensures { λ _. ⌜ now (list .exit) ≡ sets (now (list .entry)) 0 (recordsFrom (first (jobRows e (windowOf (now (s .entry))) (questionOf (now (s .entry))) (length (now (list .entry))))) (answersOf e (questionOf (now (s .entry)))) (windowOf (now (s .entry)))) ⌝ }
 {
     let w = window(s);
     match timed(w) {

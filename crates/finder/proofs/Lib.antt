@@ -1,0 +1,6 @@
+-- The laws of the list, over any yes/no answer.
+pub mod Samples
+pub mod Turn
+pub mod Records
+pub mod Counts
+pub mod Fits

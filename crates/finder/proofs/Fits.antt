@@ -12,15 +12,9 @@ use Rattle.halving.proofs.Laws as halving
 use Rattle.finder.specs.Spans.{Span, span, sameAs, edge, closed, opened, ended, walk}
 use Rattle.finder.specs.Fits.{Fits, InOrder, within, listed, Follows, Steps, lastOf, Begun, Endpoints}
 use Rattle.finder.specs.Fits.Fits.{shut, last, stays, begins, ends}
-use Rattle.finder.proofs.Turn.{closed-same, opened-same, closed-ends, opened-ends, closed-begins, opened-begins, beq-refl}
+use Rattle.finder.proofs.Turn.{closed-same, opened-same, closed-ends, opened-ends, closed-begins, opened-begins, beq-refl, beq-true}
 
 -- ---- the edge of a step
-
-beq-true : (x y : Bool) → Bool·beq x y ≡ true → x ≡ y
-beq-true true true e = refl
-beq-true true false e = sym e
-beq-true false true e = e
-beq-true false false e = refl
 
 beq-false : (x y z : Bool) → Bool·beq x y ≡ false → y ≢ z → x ≡ z
 beq-false true true z e h = absurd (true≢false e)
@@ -101,17 +95,17 @@ module _ (f : ℕ → Bool) where
   abbrev From : ℕ → ℕ → ℕ → Type 0
   From low first a = (f a ≡ true → (low ≤ first) × (first ≤ a)) × (f a ≡ false → low ≤ a + 1)
 
-  pub ordered : {first a : ℕ} {ts : List ℕ} {l : List Span} (low high : ℕ) → Steps a ts → lastOf a ts ≤ high → From low first a → Fits f first a ts l → InOrder low l high
+  pub in-order : {first a : ℕ} {ts : List ℕ} {l : List Span} (low high : ℕ) → Steps a ts → lastOf a ts ≤ high → From low first a → Fits f first a ts l → InOrder low l high
   unfolding lastOf
-  ordered low high h top from (shut p) = tt
-  ordered low high h top from (last p) = (from .0 p .0, from .0 p .1, top, tt)
-  ordered low high h top from (stays {first} {a} {b} {ts} {l} e r) =
-      ordered low high (h .2) top ((λ p. let k = from .0 (e ∙ p) in (k .0, omega (arith, h .0, k .1))), (λ p. let k = from .1 (e ∙ p) in omega (arith, h .0))) r
-  ordered low high h top from (begins {first} {a} {b} {e} p q u v x y r) =
-      ordered low high (h .2) top ((λ z. (let k = from .1 p in omega arith, omega arith)), (λ z. absurd (clash q z))) r
-  ordered low high h top from (ends {first} {a} {b} {e} {ts} p q u v x y r) =
+  in-order low high h top from (shut p) = tt
+  in-order low high h top from (last p) = (from .0 p .0, from .0 p .1, top, tt)
+  in-order low high h top from (stays {first} {a} {b} {ts} {l} e r) =
+      in-order low high (h .2) top ((λ p. let k = from .0 (e ∙ p) in (k .0, omega (arith, h .0, k .1))), (λ p. let k = from .1 (e ∙ p) in omega (arith, h .0))) r
+  in-order low high h top from (begins {first} {a} {b} {e} p q u v x y r) =
+      in-order low high (h .2) top ((λ z. (let k = from .1 p in omega arith, omega arith)), (λ z. absurd (clash q z))) r
+  in-order low high h top from (ends {first} {a} {b} {e} {ts} p q u v x y r) =
       let k = from .0 p in
-      (k .0, omega (arith, k .1), omega (arith, last-most b ts (h .2)), ordered (e + 2) high (h .2) top ((λ z. absurd (clash z q)), (λ z. omega arith)) r)
+      (k .0, omega (arith, k .1), omega (arith, last-most b ts (h .2)), in-order (e + 2) high (h .2) top ((λ z. absurd (clash z q)), (λ z. omega arith)) r)
 
 -- ---- which instants lie in an interval
 
@@ -154,7 +148,7 @@ module _ (f : ℕ → Bool) where
   -- after a no, none does up to that sample
   shut-no : {first b : ℕ} {ts : List ℕ} {l : List Span} → Steps b ts → f b ≡ false → Fits f first b ts l → (t : ℕ) → t ≤ b → listed l t ≡ false
   shut-no {first} {b} {ts} {l} h p r t q =
-      before (b + 1) (lastOf b ts) l t (ordered f (b + 1) (lastOf b ts) h (omega arith) ((λ z. absurd (clash z p)), (λ z. omega arith)) r) (omega arith)
+      before (b + 1) (lastOf b ts) l t (in-order f (b + 1) (lastOf b ts) h (omega arith) ((λ z. absurd (clash z p)), (λ z. omega arith)) r) (omega arith)
 
   -- what follows f is not asked before its first sample
   follows-from : (g g′ : ℕ → Bool) (a : ℕ) (ts : List ℕ) → Steps a ts → ((t : ℕ) → a ≤ t → g′ t ≡ g t) → Follows f g a ts → Follows f g′ a ts
@@ -198,7 +192,7 @@ module _ (f : ℕ → Bool) where
       steady l h from r true p t u v = open-yes (heads h p r) t (omega (arith, from p)) v ∙ sym p
       steady l h from r false p t u v = shut-no h p r t v ∙ sym p
   follows h from (begins {first} {a} {b} {e} {ts} {l} p q u v x y r) =
-      let o = ordered f (e + 1) (lastOf b ts) (h .2) (omega arith) ((λ z. (omega arith, omega arith)), (λ z. absurd (clash q z))) r in (
+      let o = in-order f (e + 1) (lastOf b ts) (h .2) (omega arith) ((λ z. (omega arith, omega arith)), (λ z. absurd (clash q z))) r in (
         record {
           e = e;
           from = u;
@@ -226,10 +220,10 @@ module _ (f : ℕ → Bool) where
   )
 
   -- every other endpoint is a bound of the window
-  pub bounded : {first a : ℕ} {ts : List ℕ} {l : List Span} (t0 t1 : ℕ) → lastOf a ts ≡ t1 → (f a ≡ true → Begun f t0 first) → Fits f first a ts l → Endpoints f t0 t1 l
+  pub endpoints : {first a : ℕ} {ts : List ℕ} {l : List Span} (t0 t1 : ℕ) → lastOf a ts ≡ t1 → (f a ≡ true → Begun f t0 first) → Fits f first a ts l → Endpoints f t0 t1 l
   unfolding lastOf
-  bounded t0 t1 end from (shut p) = tt
-  bounded t0 t1 end from (last p) = (from p, inl end, tt)
-  bounded t0 t1 end from (stays e r) = bounded t0 t1 end (λ p. from (e ∙ p)) r
-  bounded t0 t1 end from (begins {first} {a} {b} {e} p q u v x y r) = bounded t0 t1 end (λ z. inr (e, refl, x, y)) r
-  bounded t0 t1 end from (ends p q u v x y r) = (from p, inr (x, y), bounded t0 t1 end (λ z. absurd (clash z q)) r)
+  endpoints t0 t1 end from (shut p) = tt
+  endpoints t0 t1 end from (last p) = (from p, inl end, tt)
+  endpoints t0 t1 end from (stays e r) = endpoints t0 t1 end (λ p. from (e ∙ p)) r
+  endpoints t0 t1 end from (begins {first} {a} {b} {e} p q u v x y r) = endpoints t0 t1 end (λ z. inr (e, refl, x, y)) r
+  endpoints t0 t1 end from (ends p q u v x y r) = (from p, inr (x, y), endpoints t0 t1 end (λ z. absurd (clash z q)) r)

@@ -4,3 +4,7 @@ pub mod Turn
 pub mod Records
 pub mod Counts
 pub mod Fits
+pub mod Step
+pub mod Going
+pub mod Listed
+pub mod Only

@@ -7,16 +7,20 @@ use native.Mathlib.Omega.{arith}
 use lib.ListN.{length}
 use Rattle.halving.specs.declared.Edge.{Edge}
 use Rattle.halving.proofs.Laws.{counted, asked-middles}
-use Rattle.finder.specs.declared.State.{State}
 use Rattle.finder.specs.Spans.{span, sameAs, edge, closed, opened}
 use Rattle.finder.specs.Asked.{middlesIn}
-use Rattle.finder.specs.State.{advanced, finished}
 
 -- ---- two answers
 
 pub beq-refl : (x : Bool) → Bool·beq x x ≡ true
 beq-refl true = refl
 beq-refl false = refl
+
+pub beq-true : (x y : Bool) → Bool·beq x y ≡ true → x ≡ y
+beq-true true true e = refl
+beq-true true false e = sym e
+beq-true false true e = e
+beq-true false false e = refl
 
 and-not : (x : Bool) → (x && not x) ≡ false
 and-not true = refl

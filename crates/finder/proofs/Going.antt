@@ -104,10 +104,10 @@ module _ (f : ℕ → Bool) (w : Window) (out₀ : List ℕ) (good : Good w) whe
             counted = omega (arith, to-count);
             asked = omega (arith, to-ask, g .asked);
             bytes =
-              ap (λ (l : List ℕ). written w l (s .count + length (closed f (s .first) (s .at) b)) (walk f (opened f (s .first) (s .at) b) b rest)) e
-              ∙ written-both w out (s .count) (closed f (s .first) (s .at) b) (walk f (opened f (s .first) (s .at) b) b rest)
-              ∙ ap (written w out (s .count)) (sym to-come)
-              ∙ g .bytes;
+                ap (λ (l : List ℕ). written w l (s .count + length (closed f (s .first) (s .at) b)) (walk f (opened f (s .first) (s .at) b) b rest)) e
+                ∙ written-both w out (s .count) (closed f (s .first) (s .at) b) (walk f (opened f (s .first) (s .at) b) b rest)
+                ∙ ap (written w out (s .count)) (sym to-come)
+                ∙ g .bytes;
           }
 
     -- the same where the steps left are counted down

@@ -10,7 +10,7 @@ use Rattle.finder.specs.declared.Window.{Window}
 use Rattle.finder.specs.Samples.{Good, stepsOf, sampleAt, samplesFrom, samples}
 use Rattle.finder.specs.Spans.{Span, listOf}
 use Rattle.finder.specs.Fits.{Fits, InOrder, listed, Step, Follows, Endpoints}
-use Rattle.finder.proofs.Samples.{sample-first, samples-steps, samples-end}
+use Rattle.finder.proofs.Samples.{sample-first, samples-rise, samples-end}
 use Rattle.finder.proofs.Fits.{walk-fits, in-order, follows, endpoints}
 
 -- step i of what follows the samples
@@ -38,19 +38,19 @@ module _ (f g : ℕ → Bool) (w : Window) where
 module _ (w : Window) (good : Good w) (f : ℕ → Bool) where
   pub list-fits : Fits f (w .t0) (w .t0) (samples w) (listOf f w)
   unfolding listOf
-  list-fits = walk-fits f (w .t0) (w .t0) (samples w) (samples-steps w good)
+  list-fits = walk-fits f (w .t0) (w .t0) (samples w) (samples-rise w good)
 
   -- intervals in order, inside the window, at least one instant between neighbours
   pub list-in-order : InOrder (w .t0) (listOf f w) (w .t1)
   list-in-order =
-      in-order f (w .t0) (w .t1) (samples-steps w good) (omega (arith, samples-end w good)) ((λ p. (omega arith, omega arith)), (λ p. omega arith)) list-fits
+      in-order f (w .t0) (w .t1) (samples-rise w good) (omega (arith, samples-end w good)) ((λ p. (omega arith, omega arith)), (λ p. omega arith)) list-fits
 
   -- every endpoint is a change or a bound of the window
   pub list-endpoints : Endpoints f (w .t0) (w .t1) (listOf f w)
   list-endpoints = endpoints f (w .t0) (w .t1) (samples-end w good) (λ p. inl refl) list-fits
 
   pub list-follows : Follows f (listed (listOf f w)) (w .t0) (samples w)
-  list-follows = follows f (samples-steps w good) (λ p. omega arith) list-fits
+  list-follows = follows f (samples-rise w good) (λ p. omega arith) list-fits
 
   by-number : Follows f (listed (listOf f w)) (sampleAt w 0) (samplesFrom w 1 (stepsOf w))
   unfolding samples

@@ -1,4 +1,4 @@
--- The samples of a window: each from the one before, in steps of 2^20 ms at most, and t1 last.
+-- The samples of a window: each from the one before, in steps that are not too long, and t1 last.
 use Prim.Native.Nat.{ℕ, zero, suc, _+_, _-_, _*_, _/_, _≤_, _<_, min}
 use mathlib.Core.Path.{_≡_, refl, sym, ap, subst, _∙_}
 use native.Mathlib.Omega.{arith}
@@ -6,7 +6,7 @@ use native.Mathlib.Nat.{div-add-mod', mod-lt, div-le-self, suc-mul}
 use lib.ListN.{length}
 use Rattle.finder.specs.declared.Window.{Window}
 use Rattle.finder.specs.Samples.{Good, ceilDiv, stepsOf, sampleAt, samplesFrom, samples}
-use Rattle.finder.specs.Fits.{Steps, lastOf}
+use Rattle.finder.specs.Fits.{Rising, lastOf}
 use Rattle.finder.specs.State.{next}
 
 module _ (w : Window) where
@@ -39,18 +39,18 @@ module _ (w : Window) where
     unfolding sampleAt
     sample-first = omega (arith, good .window)
 
-    -- samples in order, in steps of 2^20 ms at most
-    pub samples-from : (i k : ℕ) → Steps (sampleAt w i) (samplesFrom w (suc i) k)
+    -- samples in order, in steps that are not too long
+    pub rise-from : (i k : ℕ) → Rising (sampleAt w i) (samplesFrom w (suc i) k)
     unfolding samplesFrom
-    samples-from i zero = tt
-    samples-from i (suc k) =
+    rise-from i zero = tt
+    rise-from i (suc k) =
         let after = sample-next i in
         let inside = sample-inside i in
-        (omega arith, omega (arith, good .short), samples-from (suc i) k)
+        (omega arith, omega (arith, good .short), rise-from (suc i) k)
 
-    pub samples-steps : Steps (w .t0) (samples w)
+    pub samples-rise : Rising (w .t0) (samples w)
     unfolding samples
-    samples-steps = subst (λ (a : ℕ). Steps a (samplesFrom w 1 (stepsOf w))) (sym sample-first) (samples-from 0 (stepsOf w))
+    samples-rise = subst (λ (a : ℕ). Rising a (samplesFrom w 1 (stepsOf w))) (sym sample-first) (rise-from 0 (stepsOf w))
 
     -- n steps reach t1
     sample-end : sampleAt w (0 + stepsOf w) ≡ w .t1

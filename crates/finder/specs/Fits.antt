@@ -1,27 +1,38 @@
--- What a list of intervals has to be, over any yes/no answer f and whoever made it: the words of the third promise.
+-- What a list of intervals has to be, over any yes/no answer f and whoever made it (document 01, "The list" and "Holding the promises to
+-- account"): in order, right at each sample, with one change in each step whose ends differ and none elsewhere.
 use Prim.Native.Nat.{ℕ, _+_, _≤_, _<_}
 use mathlib.Core.Path.{_≡_}
 use mathlib.Core.Logic.{_≢_, _⊎_}
 use mathlib.Core.List.{List, [], _∷_}
 use mathlib.Core.Bool.{Bool, true, false, _&&_, _||_}
 use lib.Dec.{leb}
+use Rattle.finder.specs.Samples.{longestStep}
 use Rattle.finder.specs.Spans.{Span, span}
 
 -- ---- the relation
+
+-- from a to b the answer goes from x to y, and so it does from e to e + 1
+pub record Changes (f : ℕ → Bool) (x y : Bool) (a b e : ℕ) : Type 0 where
+  pub at-a : f a ≡ x
+  pub at-b : f b ≡ y
+  pub from : a ≤ e
+  pub to : e < b
+  pub before : f e ≡ x
+  pub after : f (e + 1) ≡ y
 
 -- a list that fits the samples a and ts: each step whose ends differ holds one change, between neighbours that differ in its direction,
 -- no other step holds one, and a yes at the last sample closes an interval there. Where a says yes, the open interval began at `first`
 pub data Fits (f : ℕ → Bool) : ℕ → ℕ → List ℕ → List Span → Type 0 where
   shut : {first a : ℕ} → f a ≡ false → Fits f first a [] []
-  last : {first a : ℕ} → f a ≡ true → Fits f first a [] (span first a ∷ [])
+  closes : {first a : ℕ} → f a ≡ true → Fits f first a [] (span first a ∷ [])
   stays : {first a b : ℕ} {ts : List ℕ} {l : List Span} → f a ≡ f b → Fits f first b ts l → Fits f first a (b ∷ ts) l
-  begins : {first a b e : ℕ} {ts : List ℕ} {l : List Span} → f a ≡ false → f b ≡ true → a ≤ e → e < b → f e ≡ false → f (e + 1) ≡ true → Fits f (e + 1) b ts l → Fits f first a (b ∷ ts) l
-  ends : {first a b e : ℕ} {ts : List ℕ} {l : List Span} → f a ≡ true → f b ≡ false → a ≤ e → e < b → f e ≡ true → f (e + 1) ≡ false → Fits f first b ts l → Fits f first a (b ∷ ts) (span first e ∷ l)
+  begins : {first a b e : ℕ} {ts : List ℕ} {l : List Span} → Changes f false true a b e → Fits f (e + 1) b ts l → Fits f first a (b ∷ ts) l
+  ends : {first a b e : ℕ} {ts : List ℕ} {l : List Span} → Changes f true false a b e → Fits f first b ts l → Fits f first a (b ∷ ts) (span first e ∷ l)
 
--- samples in order, in steps of 2^20 ms at most
-abbrev pub Steps : ℕ → List ℕ → Type 0
-Steps a [] = Unit {0}
-Steps a (b ∷ ts) = (a ≤ b) × (b ≤ a + 1048576) × Steps b ts
+-- samples in order, none of whose steps is too long
+abbrev pub Rising : ℕ → List ℕ → Type 0
+Rising a [] = Unit {0}
+Rising a (b ∷ ts) = (a ≤ b) × (b ≤ a + longestStep) × Rising b ts
 
 -- the last of the samples a and ts
 unfoldable pub lastOf : ℕ → List ℕ → ℕ

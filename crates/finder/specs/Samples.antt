@@ -3,12 +3,20 @@ use Prim.Native.Nat.{ℕ, zero, suc, _+_, _-_, _*_, _/_, _≤_, _<_, min}
 use mathlib.Core.List.{List, [], _∷_}
 use Rattle.finder.specs.declared.Window.{Window}
 
--- a window and a step that refusals 6 and 7 let through, however many steps there are (document 01, "Turned away")
+-- the last end of a window, in ms: 31 days (document 01, "Turned away", 6)
+abbrev pub lastEnd : ℕ
+lastEnd = 2678400000
+
+-- the longest step, in ms: 2^20 (document 01, "Turned away", 7)
+abbrev pub longestStep : ℕ
+longestStep = 1048576
+
+-- a window and a step that refusals 6 and 7 let through, however many steps there are
 pub record Good (w : Window) : Type 0 where
   pub window : w .t0 < w .t1
-  pub end : w .t1 ≤ 2678400000
+  pub end : w .t1 ≤ lastEnd
   pub some : 1 ≤ w .step
-  pub short : w .step ≤ 1048576
+  pub short : w .step ≤ longestStep
 
 -- ceil(a / b)
 abbrev pub ceilDiv : ℕ → ℕ → ℕ

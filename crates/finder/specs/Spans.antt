@@ -19,7 +19,8 @@ span first last = record { first = first; last = last }
 abbrev pub sameAs : (ℕ → Bool) → ℕ → ℕ → Bool
 sameAs f a m = Bool·beq (f m) (f a)
 
--- the neighbours at which a step from a to b changes: low moves if the middle answers as the low end, else high
+-- the neighbours at which a step from a to b changes: low moves if the middle answers as the low end, else high. A step is at most 2^20 ms, so
+-- 20 halvings end at neighbours
 unfoldable pub edge : (ℕ → Bool) → ℕ → ℕ → Edge
 edge f a b = halve (sameAs f a) 20 a b 0
 

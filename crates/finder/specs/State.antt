@@ -7,7 +7,7 @@ use lib.ListN.{length}
 use Rattle.finder.specs.declared.State.{State}
 use Rattle.finder.specs.declared.Found.{Found}
 use Rattle.finder.specs.declared.Window.{Window}
-use Rattle.finder.specs.Samples.{Good}
+use Rattle.finder.specs.Samples.{lastEnd, longestStep, Good}
 use Rattle.finder.specs.Spans.{opened, closed, ended}
 use Rattle.finder.specs.Asked.{middlesIn}
 
@@ -20,14 +20,14 @@ pub record Sampled (w : Window) (at : ℕ) : Type 0 where
 abbrev pub next : Window → ℕ → ℕ
 next w at = min (at + w .step) (w .t1)
 
--- a step of 2^20 ms at most, whose low end answered `was`
+-- a step that is not too long, whose low end answered `was`
 pub record Stretch (f : ℕ → Bool) (low high : ℕ) (was : Bool) : Type 0 where
   pub from : low ≤ high
-  pub near : high ≤ low + 1048576
-  pub early : high ≤ 2678400000
+  pub near : high ≤ low + longestStep
+  pub early : high ≤ lastEnd
   pub answered : was ≡ f low
 
--- a count of instants that is far from the end of 64 bits
+-- a count of instants below 2^40, far from the end of 64 bits
 abbrev pub Few : State → Type 0
 Few s = s .asked < 1099511627776
 

@@ -26,7 +26,8 @@ pub struct Found {
     pub asked: u64,
 }
 
-// The finder has come to the sample `at`, which answered `was`; where that is yes, the open interval began at `first`.
+// The finder has come to the sample `at`, which answered `was`; where that is yes, the open interval began at `first`. So far it wrote
+// `count` intervals and asked `asked` instants.
 pub struct State {
     pub at: u64,
     pub was: bool,

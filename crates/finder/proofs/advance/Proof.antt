@@ -20,9 +20,10 @@ returns c =
     let start = asked .before .before .before in
     let f = answerAt (start .args .o) (start .args .question) in
     let was = start .pre .0 .1 .answered in
-    let agree = c .before .if1 .taken in
-    (stays f (start .args .w) (start .args .s) (start .args .b) (asked .answer .result) was (asked .answer .ensures) agree,
-    stays-out f (start .args .w) (start .args .s) (start .args .b) (asked .answer .result) was (asked .answer .ensures) agree _)
+    let agree = c .before .if1 .taken in (
+      stays f (start .args .w) (start .args .s) (start .args .b) (asked .answer .result) was (asked .answer .ensures) agree,
+      stays-out f (start .args .w) (start .args .s) (start .args .b) (asked .answer .result) was (asked .answer .ensures) agree _,
+    )
 
 halve-requires : tie.Need-halve-requires
 halve-requires c κs = search needs
@@ -43,9 +44,10 @@ returns-2 c =
     let asked = apart .before .before in
     let start = asked .before .before .before in
     let f = answerAt (start .args .o) (start .args .question) in
-    let was = start .pre .0 .1 .answered in
-    (begins f (start .args .w) (start .args .s) (start .args .b) (asked .answer .result) was (asked .answer .ensures) (apart .if1 .left) (found .halve .result) (found .halve .ensures) (c .if2 .taken),
-    begins-out f (start .args .w) (start .args .s) (start .args .b) (asked .answer .result) was (asked .answer .ensures) (apart .if1 .left) (found .halve .result) (found .halve .ensures) (c .if2 .taken) _)
+    let was = start .pre .0 .1 .answered in (
+      begins f (start .args .w) (start .args .s) (start .args .b) (asked .answer .result) was (asked .answer .ensures) (apart .if1 .left) (found .halve .result) (found .halve .ensures) (c .if2 .taken),
+      begins-out f (start .args .w) (start .args .s) (start .args .b) (asked .answer .result) was (asked .answer .ensures) (apart .if1 .left) (found .halve .result) (found .halve .ensures) (c .if2 .taken) _,
+    )
 
 put-requires : tie.Need-put-requires
 put-requires c κs =
@@ -73,9 +75,10 @@ returns-3 c =
     let asked = apart .before .before in
     let start = asked .before .before .before in
     let f = answerAt (start .args .o) (start .args .question) in
-    let was = start .pre .0 .1 .answered in
-    (ends f (start .args .w) (start .args .s) (start .args .b) (asked .answer .result) was (asked .answer .ensures) (apart .if1 .left) (found .halve .result) (found .halve .ensures) (no .if2 .left),
-    ends-out f (start .args .w) (start .args .s) (start .args .b) (asked .answer .result) was (asked .answer .ensures) (apart .if1 .left) (found .halve .result) (found .halve .ensures) (no .if2 .left) _ _ (put .put .ensures))
+    let was = start .pre .0 .1 .answered in (
+      ends f (start .args .w) (start .args .s) (start .args .b) (asked .answer .result) was (asked .answer .ensures) (apart .if1 .left) (found .halve .result) (found .halve .ensures) (no .if2 .left),
+      ends-out f (start .args .w) (start .args .s) (start .args .b) (asked .answer .result) was (asked .answer .ensures) (apart .if1 .left) (found .halve .result) (found .halve .ensures) (no .if2 .left) _ _ (put .put .ensures),
+    )
 
 pub advance-spec : {M : Type 1} → statement M
 advance-spec =

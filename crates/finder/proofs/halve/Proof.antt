@@ -39,7 +39,7 @@ loop-less c =
 loop-again : tie.Need-loop-again Inv-loop μ-loop
 loop-again c =
     let turn = c .before .before in
-    (omega arith, omega arith, look-up _ (turn .before .loop .inv .2) (turn .loop-test .taken) (cc (c .if1 .taken)))
+    (omega arith, omega arith, look-up _ (turn .before .loop .inv .2) (turn .loop-test .taken) (rw (← c .before .answer .ensures, ← c .before .before .before .before .before .pre .1 .answered) (c .if1 .taken)))
 
 loop-less-2 : tie.Need-loop-less-2 Inv-loop μ-loop
 loop-less-2 c =
@@ -49,7 +49,7 @@ loop-less-2 c =
 loop-again-2 : tie.Need-loop-again-2 Inv-loop μ-loop
 loop-again-2 c =
     let turn = c .before .before in
-    (omega arith, omega arith, look-down _ (turn .before .loop .inv .2) (turn .loop-test .taken) (cc (c .if1 .left)))
+    (omega arith, omega arith, look-down _ (turn .before .loop .inv .2) (turn .loop-test .taken) (rw (← c .before .answer .ensures, ← c .before .before .before .before .before .pre .1 .answered) (c .if1 .left)))
 
 returns : tie.Need-returns Inv-loop μ-loop
 returns c = look-done _ (c .before .loop .inv .2) (omega arith)

@@ -41,8 +41,7 @@ advance-requires c κs =
     let out₀ = start .args .out .now in
     let good = start .pre .1 in
     let now = head .loop in
-    let b = c .before .sample in
-    (
+    let b = c .before .sample in (
       (start .pre .0, going-stretch f w out₀ good (now .out) (now .s) (now .left) (now .inv) (b .result) (b .ensures), going-few f w out₀ good (now .out) (now .s) (now .left) (now .inv)),
       going-room f w out₀ good (now .out) (now .s) (now .left) (now .inv) (c .before .before .loop-test .taken) (start .pre .2) (b .result) (b .ensures),
     )
@@ -82,8 +81,7 @@ returns c =
     let f = answerAt (start .args .o) (start .args .question) in
     let w = start .args .w in
     let out₀ = start .args .out .now in
-    let good = start .pre .1 in
-    (
+    let good = start .pre .1 in (
       done .close .ensures .0 ∙ end-found f w out₀ good (now .out) (now .s) (now .left) (now .inv) (left .loop-test .left),
       end-out f w out₀ good (now .out) (now .s) (now .left) (now .inv) (left .loop-test .left) _ (done .close .ensures .1),
     )

@@ -8,3 +8,4 @@ pub mod Step
 pub mod Going
 pub mod Listed
 pub mod Only
+pub mod Asked

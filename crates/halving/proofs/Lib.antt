@@ -1,3 +1,4 @@
 -- The laws of halving that the crates above cite.
 pub mod Laws
 pub mod Loop
+pub mod Alike

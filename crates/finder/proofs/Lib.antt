@@ -1,0 +1,11 @@
+-- The laws of the list, over any yes/no answer.
+pub mod Samples
+pub mod Turn
+pub mod Records
+pub mod Counts
+pub mod Fits
+pub mod Step
+pub mod Going
+pub mod Listed
+pub mod Only
+pub mod Asked

@@ -1,0 +1,65 @@
+-- The samples of a window: each from the one before, in steps that are not too long, and t1 last.
+use Prim.Native.Nat.{ℕ, zero, suc, _+_, _-_, _*_, _/_, _≤_, _<_, min}
+use mathlib.Core.Path.{_≡_, refl, sym, ap, subst, _∙_}
+use native.Mathlib.Omega.{arith}
+use native.Mathlib.Nat.{div-add-mod', mod-lt, div-le-self, suc-mul}
+use lib.ListN.{length}
+use Rattle.finder.specs.declared.Window.{Window}
+use Rattle.finder.specs.Samples.{Good, ceilDiv, stepsOf, sampleAt, samplesFrom, samples}
+use Rattle.finder.specs.Fits.{Rising, lastOf}
+use Rattle.finder.specs.State.{next}
+
+module _ (w : Window) where
+  -- the sample after sample i
+  pub sample-next : (i : ℕ) → next w (sampleAt w i) ≡ sampleAt w (suc i)
+  unfolding sampleAt
+  sample-next i = rw (suc-mul i (w .step)) (omega arith)
+
+  pub sample-inside : (i : ℕ) → sampleAt w i ≤ w .t1
+  unfolding sampleAt
+  sample-inside i = omega arith
+
+  pub length-samples : (i k : ℕ) → length (samplesFrom w i k) ≡ k
+  unfolding samplesFrom
+  length-samples i zero = refl
+  length-samples i (suc k) = ap suc (length-samples (suc i) k)
+
+  -- the k samples behind sample i end with sample i + k
+  pub samples-last : (i k : ℕ) → lastOf (sampleAt w i) (samplesFrom w (suc i) k) ≡ sampleAt w (i + k)
+  unfolding samplesFrom lastOf
+  samples-last i zero = ap (sampleAt w) (omega arith)
+  samples-last i (suc k) = samples-last (suc i) k ∙ ap (sampleAt w) (omega arith)
+
+  pub steps-most : Good w → stepsOf w ≤ 2679448575
+  unfolding stepsOf
+  steps-most good = omega (arith, good .end, good .short, div-le-self (w .t1 - w .t0 + (w .step - 1)) (w .step))
+
+  module _ (good : Good w) where
+    pub sample-first : w .t0 ≡ sampleAt w 0
+    unfolding sampleAt
+    sample-first = omega (arith, good .window)
+
+    -- samples in order, in steps that are not too long
+    pub rise-from : (i k : ℕ) → Rising (sampleAt w i) (samplesFrom w (suc i) k)
+    unfolding samplesFrom
+    rise-from i zero = tt
+    rise-from i (suc k) =
+        let after = sample-next i in
+        let inside = sample-inside i in
+        (omega arith, omega (arith, good .short), rise-from (suc i) k)
+
+    pub samples-rise : Rising (w .t0) (samples w)
+    unfolding samples
+    samples-rise = subst (λ (a : ℕ). Rising a (samplesFrom w 1 (stepsOf w))) (sym sample-first) (rise-from 0 (stepsOf w))
+
+    -- n steps reach t1
+    sample-end : sampleAt w (0 + stepsOf w) ≡ w .t1
+    unfolding sampleAt stepsOf
+    sample-end =
+        let x = w .t1 - w .t0 + (w .step - 1) in
+        omega (arith, good .window, good .some, div-add-mod' x (w .step), mod-lt x (good .some))
+
+    -- so t1 is the last sample
+    pub samples-end : lastOf (w .t0) (samples w) ≡ w .t1
+    unfolding samples
+    samples-end = ap (λ (a : ℕ). lastOf a (samples w)) sample-first ∙ samples-last 0 (stepsOf w) ∙ sample-end

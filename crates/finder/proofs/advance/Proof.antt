@@ -1,0 +1,97 @@
+-- `finder::advance` meets its contract: by the three cases of a step.
+use native.Mathlib.Omega.{arith}
+use denote.Ref.{now}
+use Rattle.geometry.specs.Visible.{answerAt}
+use Rattle.finder.proofs.Turn.{found-most}
+use Rattle.finder.proofs.Step.{stays, stays-out, begins, begins-out, ends, ends-room, ends-out}
+use borrow.Author.Needs.{needs}
+use Rattle.finder.proofs.advance.Statement.{statement}
+use Rattle.finder.proofs.advance.Tie as tie
+
+answer-requires : tie.Need-answer-requires
+answer-requires c κs = search needs
+
+add-t12 : tie.Need-add-t12
+add-t12 c = search needs
+
+returns : tie.Need-returns
+returns c =
+    let asked = c .before .before .before in
+    let start = asked .before .before .before in
+    let f = answerAt (start .args .o) (start .args .question) in
+    let was = start .pre .0 .1 .answered in
+    let agree = c .before .if1 .taken in (
+      stays f (start .args .w) (start .args .s) (start .args .b) (asked .answer .result) was (asked .answer .ensures) agree,
+      stays-out f (start .args .w) (start .args .s) (start .args .b) (asked .answer .result) was (asked .answer .ensures) agree _,
+    )
+
+halve-requires : tie.Need-halve-requires
+halve-requires c κs = search needs
+
+add-asked : tie.Need-add-asked
+add-asked c = search needs
+
+add-asked-2 : tie.Need-add-asked-2
+add-asked-2 c =
+    let found = c .before .before in
+    let start = found .before .before .before .before .before .before in
+    omega (arith, found-most (answerAt (start .args .o) (start .args .question)) (start .args .s .at) (start .args .b) (found .halve .result) (found .halve .ensures), start .pre .0 .2)
+
+returns-2 : tie.Need-returns-2
+returns-2 c =
+    let found = c .before .before .before in
+    let apart = found .before in
+    let asked = apart .before .before in
+    let start = asked .before .before .before in
+    let f = answerAt (start .args .o) (start .args .question) in
+    let was = start .pre .0 .1 .answered in (
+      begins f (start .args .w) (start .args .s) (start .args .b) (asked .answer .result) was (asked .answer .ensures) (apart .if1 .left) (found .halve .result) (found .halve .ensures) (c .if2 .taken),
+      begins-out f (start .args .w) (start .args .s) (start .args .b) (asked .answer .result) was (asked .answer .ensures) (apart .if1 .left) (found .halve .result) (found .halve .ensures) (c .if2 .taken) _,
+    )
+
+put-requires : tie.Need-put-requires
+put-requires c κs =
+    let no = c .before in
+    let found = no .before .before .before in
+    let apart = found .before in
+    let asked = apart .before .before in
+    let start = asked .before .before .before in
+    ends-room (answerAt (start .args .o) (start .args .question)) (start .args .w) (start .args .s) (start .args .b) (asked .answer .result) (start .pre .0 .1 .answered) (asked .answer .ensures) (apart .if1 .left) (found .halve .result) (found .halve .ensures) (no .if2 .left) (start .args .out .now) (start .pre .1)
+
+add-t17 : tie.Need-add-t17
+add-t17 c =
+    let start = c .before .before .before .before .before .before .before .before .before .before .before .before .before .before in
+    search (needs, start .pre .1)
+
+same-length : tie.Need-same-length
+same-length c = search needs
+
+returns-3 : tie.Need-returns-3
+returns-3 c =
+    let put = c .before .before .before in
+    let no = put .before .before in
+    let found = no .before .before .before in
+    let apart = found .before in
+    let asked = apart .before .before in
+    let start = asked .before .before .before in
+    let f = answerAt (start .args .o) (start .args .question) in
+    let was = start .pre .0 .1 .answered in (
+      ends f (start .args .w) (start .args .s) (start .args .b) (asked .answer .result) was (asked .answer .ensures) (apart .if1 .left) (found .halve .result) (found .halve .ensures) (no .if2 .left),
+      ends-out f (start .args .w) (start .args .s) (start .args .b) (asked .answer .result) was (asked .answer .ensures) (apart .if1 .left) (found .halve .result) (found .halve .ensures) (no .if2 .left) _ _ (put .put .ensures),
+    )
+
+pub advance-spec : {M : Type 1} → statement M
+advance-spec =
+    tie.close
+    (tie.spec
+    answer-requires
+    add-t12
+    returns
+    halve-requires
+    add-asked
+    add-asked-2
+    returns-2
+    put-requires
+    add-t17
+    same-length
+    returns-3)

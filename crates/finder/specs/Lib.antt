@@ -1,0 +1,7 @@
+-- The definitions of the list, over any yes/no answer.
+pub mod Samples
+pub mod Spans
+pub mod Asked
+pub mod Records
+pub mod Fits
+pub mod State

@@ -1,0 +1,43 @@
+-- What is written and returned (document 01, "What the desk feeds and gets" and "Turned away").
+use Prim.Native.Nat.{ℕ, _+_, _*_, _≤_}
+use mathlib.Core.List.{List, [], _∷_, _++_}
+use mathlib.Core.Bool.{Bool, cond}
+use lib.Dec.{eqb}
+use lib.ListN.{length}
+use lib.Seq.{sets}
+use Rattle.interval.specs.declared.Interval.{Interval}
+use Rattle.interval.specs.Record.{recordBytes}
+use Rattle.finder.specs.declared.Found.{Found}
+use Rattle.finder.specs.declared.Window.{Window}
+use Rattle.finder.specs.Samples.{ceilDiv, stepsOf}
+use Rattle.finder.specs.Spans.{Span, listOf}
+use Rattle.finder.specs.Asked.{instantsOf}
+
+-- flag 1: first = t0. Flag 2: last = t1
+unfoldable pub flagsOf : Window → Span → ℕ
+flagsOf w s = cond (eqb (s .first) (w .t0)) 1 0 + cond (eqb (s .last) (w .t1)) 2 0
+
+-- an interval's record
+unfoldable pub intervalOf : Window → Span → Interval
+intervalOf w s = record { job = w .job; flags = flagsOf w s; first = s .first; last = s .last }
+
+-- the bytes of a list's records, one behind the other
+unfoldable pub recordsOf : Window → List Span → List ℕ
+recordsOf w [] = []
+recordsOf w (s ∷ l) = recordBytes (intervalOf w s) ++ recordsOf w l
+
+-- `out` with the records of l behind `count` records, and every other byte as it was
+abbrev pub written : Window → List ℕ → ℕ → List Span → List ℕ
+written w out count l = sets out (24 * count) (recordsOf w l)
+
+-- the number of intervals, and that of the instants asked
+unfoldable pub foundOf : (ℕ → Bool) → Window → Found
+foundOf f w = record { intervals = length (listOf f w); asked = length (instantsOf f w) }
+
+-- 24·ceil((n+1)/2) bytes, n steps
+unfoldable pub roomOf : Window → ℕ
+roomOf w = 24 * ceilDiv (stepsOf w + 1) 2
+
+-- a lent list with so much room
+abbrev pub HasRoom : Window → List ℕ → Type 0
+HasRoom w out = roomOf w ≤ length out

@@ -1,0 +1,81 @@
+-- The record's bytes: four numbers one behind the other. Both round trips, through the laws of little-endian numbers.
+use Prim.Native.Nat.{ℕ, suc, _+_, _^_, _<_}
+use mathlib.Core.Path.{_≡_, refl, sym, ap, _∙_}
+use mathlib.Core.List.{List, [], _∷_, _++_, append-assoc, append-nil}
+use native.Mathlib.Omega.{arith}
+use lib.ListN.{length, take, drop, set, length-append}
+use lib.Seq.{sets, sets-eq, drop-length, take-at, drop-at}
+use borrow.Author.Tests.{eq-eqb, ne-eqb, eqb-true}
+use lib.Dec.{eqb}
+use Rattle.words.specs.Little.{bytesOf, readOf, putOf, Bytes}
+use Rattle.words.proofs.Laws.{length-bytes, number-bytes, put-read}
+use Rattle.interval.specs.declared.Interval.{Interval}
+use Rattle.interval.specs.declared.Parsed.the-variants.{Record, NoRecord}
+use Rattle.interval.specs.Record.{recordBytes, recordOf, parsedOf, writeOf, Sized}
+
+-- ---- writing
+
+-- bytes that are written one behind the other
+pub sets-append : (xs ys l : List ℕ) (i : ℕ) → sets l i (xs ++ ys) ≡ sets (sets l i xs) (i + length xs) ys
+sets-append [] ys l i = ap (λ (k : ℕ). sets l k ys) (omega arith)
+sets-append (x ∷ xs) ys l i = sets-append xs ys (set l i x) (suc i) ∙ ap (λ (k : ℕ). sets (sets (set l i x) (suc i) xs) k ys) (omega arith)
+
+-- four numbers put one behind the other are the record
+pub record-puts : (l : List ℕ) {l₁ l₂ l₃ l₄ : List ℕ} (at : ℕ) (r : Interval) → l₁ ≡ putOf 4 l at (r .job) → l₂ ≡ putOf 4 l₁ (at + 4) (r .flags) → l₃ ≡ putOf 8 l₂ (at + 8) (r .first) → l₄ ≡ putOf 8 l₃ (at + 16) (r .last) → l₄ ≡ writeOf l at r
+unfolding writeOf recordBytes putOf
+record-puts l at r p q s t = rw (t, s, q, p) (simp (sets-append, length-append, length-bytes))
+
+pub length-record : (r : Interval) → length (recordBytes r) ≡ 24
+unfolding recordBytes
+length-record r = simp (length-append, length-bytes)
+
+-- ---- any 24 bytes read as one record, and any other length answers that there is no record
+
+pub reads : (s : List ℕ) → length s ≡ 24 → parsedOf s ≡ Record (recordOf s)
+unfolding parsedOf
+reads s n = rw (eq-eqb (length s) 24 n)
+
+pub reads-not : (s : List ℕ) → (length s ≡ 24 → ⊥) → parsedOf s ≡ NoRecord
+unfolding parsedOf
+reads-not s n = rw (ne-eqb (length s) 24 n)
+
+-- ---- there and back: 24 bytes are written back as they were read
+
+module _ (s : List ℕ) (b : Bytes s) (n : length s ≡ 24) where
+  put-back : writeOf s 0 (recordOf s) ≡ s
+  unfolding recordOf
+  put-back =
+      let same : (k at : ℕ) → at + k < 25 → s ≡ putOf k s at (readOf k s at) = λ k at h. sym (put-read k s at (omega arith) b) in
+      sym (record-puts s 0 (recordOf s) (same 4 0 (omega arith)) (same 4 4 (omega arith)) (same 8 8 (omega arith)) (same 8 16 (omega arith)))
+
+  pub written-back : recordBytes (recordOf s) ≡ s
+  unfolding writeOf
+  written-back =
+      let bytes = recordBytes (recordOf s) in
+      let none : drop (0 + length bytes) s ≡ [] = rw (length-record (recordOf s), ← n) (drop-length s) in
+      sym (append-nil bytes)
+      ∙ ap (λ (l : List ℕ). bytes ++ l) (sym none)
+      ∙ sym (sets-eq bytes s 0 (omega (arith, length-record (recordOf s))))
+      ∙ put-back
+
+-- ---- and the other way: a record is read as it was written
+
+-- a number among bytes
+part : (n x : ℕ) (s p q : List ℕ) (at : ℕ) → x < 256 ^ n → length p ≡ at → s ≡ p ++ (bytesOf n x ++ q) → readOf n s at ≡ x
+unfolding readOf
+part n x s p q at small long is =
+    rw (is, drop-at p (bytesOf n x ++ q) at long, take-at (bytesOf n x) q n (length-bytes n x)) (number-bytes n x small)
+
+pub read-back : (r : Interval) → Sized r → recordOf (recordBytes r) ≡ r
+unfolding recordOf recordBytes
+read-back r z =
+    let a = bytesOf 4 (r .job) in
+    let b = bytesOf 4 (r .flags) in
+    let c = bytesOf 8 (r .first) in
+    let d = bytesOf 8 (r .last) in
+    let s = a ++ b ++ c ++ d in
+    let job : readOf 4 s 0 ≡ r .job = part 4 (r .job) s [] (b ++ (c ++ d)) 0 (z .job-fits) refl (simp append-assoc) in
+    let flags : readOf 4 s 4 ≡ r .flags = part 4 (r .flags) s a (c ++ d) 4 (z .flags-fits) (length-bytes 4 (r .job)) (simp append-assoc) in
+    let first : readOf 8 s 8 ≡ r .first = part 8 (r .first) s (a ++ b) d 8 (z .first-fits) (simp (length-append, length-bytes)) (simp append-assoc) in
+    let last : readOf 8 s 16 ≡ r .last = part 8 (r .last) s (a ++ b ++ c) [] 16 (z .last-fits) (simp (length-append, length-bytes)) (simp (append-assoc, append-nil)) in
+    λ i. record { job = job i; flags = flags i; first = first i; last = last i }

@@ -1,0 +1,3 @@
+-- The laws of the interval record.
+pub mod Laws
+pub mod Only

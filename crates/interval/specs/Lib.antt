@@ -1,0 +1,2 @@
+-- The definitions of the interval record.
+pub mod Record

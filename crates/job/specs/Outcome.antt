@@ -36,7 +36,7 @@ unfoldable pub outcomeFrom : Verdict → (ℕ → Bool) → Window → Outcome
 outcomeFrom verdict.Passed f w = Listed (foundOf f w .intervals) (foundOf f w .asked)
 outcomeFrom (verdict.Refused r) f w = Refused r
 
--- on success the interval records, and nothing for a refusal
+-- on success the bytes of the interval records, and none for a refusal
 unfoldable pub recordsFrom : Verdict → (ℕ → Bool) → Window → List ℕ
 recordsFrom verdict.Passed f w = recordsOf w (listOf f w)
 recordsFrom (verdict.Refused r) f w = []
@@ -47,7 +47,14 @@ recordsFrom (verdict.Refused r) f w = []
 abbrev pub answersOf : Elements → ℕ → ℕ → Bool
 answersOf e q = answerAt (orbitWith e) q
 
--- to the record's own
+-- by the first of some rows that applies
+abbrev pub outcomeBy : List Verdict → Elements → ℕ → Window → Outcome
+outcomeBy rows e q w = outcomeFrom (first rows) (answersOf e q) w
+
+abbrev pub recordsBy : List Verdict → Elements → ℕ → Window → List ℕ
+recordsBy rows e q w = recordsFrom (first rows) (answersOf e q) w
+
+-- the yes or no to the record's own question about its own elements
 abbrev pub answersIn : List ℕ → ℕ → Bool
 answersIn s = answersOf (elementsOf s) (questionOf s)
 
@@ -55,7 +62,7 @@ answersIn s = answersOf (elementsOf s) (questionOf s)
 unfoldable pub outcomeOf : List ℕ → ℕ → Outcome
 outcomeOf s room = outcomeFrom (first (tableOf s room)) (answersIn s) (windowOf s)
 
--- the interval records
+-- the bytes of its interval records, none for a refusal
 unfoldable pub recordsIn : List ℕ → ℕ → List ℕ
 recordsIn s room = recordsFrom (first (tableOf s room)) (answersIn s) (windowOf s)
 

@@ -12,7 +12,7 @@ use Rattle.job.specs.Outcome.{outcomeOf, recordsIn}
 use Rattle.job.specs.declared.Outcome.{Outcome}
 use Rattle.job.specs.declared.Outcome.the-variants.{Listed, Refused}
 
--- the job number of a record; a short piece has job 0
+-- the job number of a whole record; a piece of any other length, as a short one at the end, has job 0
 unfoldable pub jobOf : List ℕ → ℕ
 jobOf s = cond (eqb (length s) 136) (readOf 4 s 0) 0
 
@@ -21,6 +21,7 @@ abbrev pub closingOf : ℕ → Outcome → Interval
 closingOf job (Listed intervals asked) = record { job = job; flags = 512; first = intervals; last = asked }
 closingOf job (Refused r) = record { job = job; flags = 256 + numberOf r; first = fieldOf r; last = 0 }
 
--- the intervals, then the closing record, whose 24 bytes the list is not lent; nothing where there is no room even for those
+-- the intervals, then the closing record. Of the room, 24 bytes are kept for that one and the list is lent the rest; with less than 24 bytes
+-- nothing is written
 unfoldable pub replyOf : List ℕ → ℕ → List ℕ
 replyOf s room = cond (leb 24 room) (recordsIn s (room - 24) ++ recordBytes (closingOf (jobOf s) (outcomeOf s (room - 24)))) []

@@ -14,7 +14,7 @@ use Rattle.geometry.specs.declared.Orbit.{Orbit}
 use Rattle.geometry.specs.Prepared.{orbitOf}
 use Rattle.geometry.specs.Placed.{settlesAt}
 use Rattle.finder.specs.declared.Window.{Window}
-use Rattle.finder.specs.Samples.{stepsOf}
+use Rattle.finder.specs.Samples.{lastEnd, longestStep, stepsOf}
 use Rattle.finder.specs.Records.{roomOf}
 
 -- ---- what stands in a record beside its fields (document 01, "What the desk feeds and gets")
@@ -31,11 +31,11 @@ questionOf s = readOf 4 s 132
 
 -- t0 ≥ t1 or t1 > 2,678,400,000
 unfoldable pub badWindow : Window → Bool
-badWindow w = leb (w .t1) (w .t0) || ltb 2678400000 (w .t1)
+badWindow w = leb (w .t1) (w .t0) || ltb lastEnd (w .t1)
 
 -- step 0 or above 1,048,576, or more than 4,096 steps
 unfoldable pub badStep : Window → Bool
-badStep w = eqb (w .step) 0 || ltb 1048576 (w .step) || ltb 4096 (stepsOf w)
+badStep w = eqb (w .step) 0 || ltb longestStep (w .step) || ltb 4096 (stepsOf w)
 
 -- question not 1 or 2
 unfoldable pub badQuestion : ℕ → Bool
@@ -69,14 +69,18 @@ keplerRow e w = when (not (settlesAt (orbitWith e) (w .t0))) refusal.Kepler
 
 -- ---- the table
 
--- 8 to 10, of a job with the elements e
-abbrev pub lentRows : Elements → Window → ℕ → ℕ → List Verdict
-lentRows e w q room = questionRow q ∷ roomRow w room ∷ keplerRow e w ∷ []
+-- 10, of a job with the elements e
+abbrev pub rowsFromSearch : Elements → Window → List Verdict
+rowsFromSearch e w = keplerRow e w ∷ []
+
+-- 8 to 10
+abbrev pub rowsFromQuestion : Elements → Window → ℕ → ℕ → List Verdict
+rowsFromQuestion e w q room = questionRow q ∷ roomRow w room ∷ rowsFromSearch e w
 
 -- 6 to 10
-abbrev pub jobRows : Elements → Window → ℕ → ℕ → List Verdict
-jobRows e w q room = windowRow w ∷ stepRow w ∷ lentRows e w q room
+abbrev pub rowsFromWindow : Elements → Window → ℕ → ℕ → List Verdict
+rowsFromWindow e w q room = windowRow w ∷ stepRow w ∷ rowsFromQuestion e w q room
 
 -- 1 to 10, of a record and a list with room for so many bytes
 unfoldable pub tableOf : List ℕ → ℕ → List Verdict
-tableOf s room = recordRows s ++ jobRows (elementsOf s) (windowOf s) (questionOf s) room
+tableOf s room = recordRows s ++ rowsFromWindow (elementsOf s) (windowOf s) (questionOf s) room

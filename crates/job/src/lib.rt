@@ -2,13 +2,13 @@
 ghost use mathlib.Core.Path.{_≡_};
 ghost use lib.ListN.{length};
 ghost use lib.Seq.{sets};
-ghost use Rattle.refusal.specs.Rows.{_then_, first};
+ghost use Rattle.refusal.specs.Rows.{_then_};
 ghost use Rattle.elements.specs.Accepted.{Accepted};
 ghost use Rattle.elements.specs.Reading.{WholeRecord};
 ghost use Rattle.finder.specs.Samples.{Good};
 ghost use Rattle.finder.specs.Records.{HasRoom};
-ghost use Rattle.job.specs.Table.{windowOf, questionOf, badWindow, badStep, badQuestion, noRoom, windowRow, stepRow, questionRow, roomRow, keplerRow, lentRows, jobRows};
-ghost use Rattle.job.specs.Outcome.{answersOf, outcomeFrom, recordsFrom, outcomeOf, listAfter, intervalsOf};
+ghost use Rattle.job.specs.Table.{windowOf, badWindow, badStep, badQuestion, noRoom, windowRow, stepRow, questionRow, roomRow, rowsFromSearch, rowsFromQuestion, rowsFromWindow};
+ghost use Rattle.job.specs.Outcome.{intervalsOf, outcomeBy, recordsBy, outcomeOf, listAfter};
 ghost use Rattle.job.specs.Reply.{jobOf, closingOf, replyOf};
 use elements::reading::Elements;
 use elements::reading::Reading;
@@ -40,13 +40,14 @@ fn window(s: &[u8]) -> Window
 
 // ---- refusals 6 and 7
 
+// t0 ≥ t1, or t1 past the last end of a window.
 fn bad_window(w: Window) -> bool
     ensures { λ r. ⌜ r ≡ badWindow w ⌝ }
 {
     w.t1 <= w.t0 || 2678400000 < w.t1
 }
 
-// No division, so that a step of 0 does no harm.
+// A step of 0, too long a step, or more than 4,096 of them. No division, so that a step of 0 does no harm.
 fn bad_step(w: Window) -> bool
     ensures { λ r. ⌜ r ≡ badStep w ⌝ }
 {
@@ -62,7 +63,8 @@ fn bad_step(w: Window) -> bool
     4096 * w.step < w.t1 - w.t0
 }
 
-fn timed(w: Window) -> Verdict
+// Rows 6 and 7.
+fn window_and_step(w: Window) -> Verdict
     ensures { λ v. ⌜ v ≡ (windowRow w then stepRow w) ⌝ }
 {
     let v = row(bad_window(w), Refusal::Window);
@@ -71,12 +73,14 @@ fn timed(w: Window) -> Verdict
 
 // ---- refusals 8 and 9
 
+// Neither 1 nor 2.
 fn bad_question(question: u32) -> bool
     ensures { λ r. ⌜ r ≡ badQuestion question ⌝ }
 {
     question != 1 && question != 2
 }
 
+// Less than 24·ceil((n+1)/2) bytes, n steps.
 fn no_room(w: Window, room: usize) -> bool
     requires { ⌜ Good w ⌝ }
     ensures { λ r. ⌜ r ≡ noRoom w room ⌝ }
@@ -84,7 +88,8 @@ fn no_room(w: Window, room: usize) -> bool
     (room as u64) < 24 * ((finder::steps(w) + 2) / 2)
 }
 
-fn asked(w: Window, question: u32, room: usize) -> Verdict
+// Rows 8 and 9.
+fn question_and_room(w: Window, question: u32, room: usize) -> Verdict
     requires { ⌜ Good w ⌝ }
     ensures { λ v. ⌜ v ≡ (questionRow question then roomRow w room) ⌝ }
 {
@@ -94,11 +99,11 @@ fn asked(w: Window, question: u32, room: usize) -> Verdict
 
 // ---- the job
 
-// The list, or refusal 10. The table is made here, once, and lent to all that reads it.
-fn found(e: Elements, question: u32, w: Window, list: &mut [u8]) -> Outcome
+// Row 10, and then the list. The sine table is made here, once, and lent to all that reads it; so a job that an earlier row refuses makes none.
+fn from_search(e: Elements, question: u32, w: Window, list: &mut [u8]) -> Outcome
     requires { ⌜ (Accepted e) × (Good w) × (HasRoom w (now list)) ⌝ }
-    ensures { λ r. ⌜ r ≡ outcomeFrom (keplerRow e w) (answersOf e question) w ⌝ }
-    ensures { λ _. ⌜ now (list .exit) ≡ sets (now (list .entry)) 0 (recordsFrom (keplerRow e w) (answersOf e question) w) ⌝ }
+    ensures { λ r. ⌜ r ≡ outcomeBy (rowsFromSearch e w) e question w ⌝ }
+    ensures { λ _. ⌜ now (list .exit) ≡ sets (now (list .entry)) 0 (recordsBy (rowsFromSearch e w) e question w) ⌝ }
 {
     let t = sine::table();
     let o = geometry::prepare(&t, elements::rounding::rounded(e));
@@ -112,28 +117,27 @@ fn found(e: Elements, question: u32, w: Window, list: &mut [u8]) -> Outcome
     }
 }
 
-// The job of a window and a step that are let through.
-fn wanted(e: Elements, question: u32, w: Window, list: &mut [u8]) -> Outcome
+// Rows 8 to 10, and then the list.
+fn from_question(e: Elements, question: u32, w: Window, list: &mut [u8]) -> Outcome
     requires { ⌜ (Accepted e) × (Good w) ⌝ }
-    ensures { λ r. ⌜ r ≡ outcomeFrom (first (lentRows e w question (length (now (list .entry))))) (answersOf e question) w ⌝ }
-    ensures { λ _. ⌜ now (list .exit) ≡ sets (now (list .entry)) 0 (recordsFrom (first (lentRows e w question (length (now (list .entry))))) (answersOf e question) w) ⌝ }
+    ensures { λ r. ⌜ r ≡ outcomeBy (rowsFromQuestion e w question (length (now (list .entry)))) e question w ⌝ }
+    ensures { λ _. ⌜ now (list .exit) ≡ sets (now (list .entry)) 0 (recordsBy (rowsFromQuestion e w question (length (now (list .entry)))) e question w) ⌝ }
 {
-    match asked(w, question, list.len()) {
+    match question_and_room(w, question, list.len()) {
         Verdict::Refused(r) => Outcome::Refused(r),
-        Verdict::Passed => found(e, question, w, list),
+        Verdict::Passed => from_search(e, question, w, list),
     }
 }
 
-// The job of elements that were read.
-fn accepted(s: &[u8], e: Elements, list: &mut [u8]) -> Outcome
-    requires { ⌜ (WholeRecord (now s)) × (Accepted e) ⌝ }
-    ensures { λ r. ⌜ r ≡ outcomeFrom (first (jobRows e (windowOf (now (s .entry))) (questionOf (now (s .entry))) (length (now (list .entry))))) (answersOf e (questionOf (now (s .entry)))) (windowOf (now (s .entry))) ⌝ }
-    ensures { λ _. ⌜ now (list .exit) ≡ sets (now (list .entry)) 0 (recordsFrom (first (jobRows e (windowOf (now (s .entry))) (questionOf (now (s .entry))) (length (now (list .entry))))) (answersOf e (questionOf (now (s .entry)))) (windowOf (now (s .entry)))) ⌝ }
+// Rows 6 to 10, and then the list.
+fn from_window(e: Elements, question: u32, w: Window, list: &mut [u8]) -> Outcome
+    requires { ⌜ Accepted e ⌝ }
+    ensures { λ r. ⌜ r ≡ outcomeBy (rowsFromWindow e w question (length (now (list .entry)))) e question w ⌝ }
+    ensures { λ _. ⌜ now (list .exit) ≡ sets (now (list .entry)) 0 (recordsBy (rowsFromWindow e w question (length (now (list .entry)))) e question w) ⌝ }
 {
-    let w = window(s);
-    match timed(w) {
+    match window_and_step(w) {
         Verdict::Refused(r) => Outcome::Refused(r),
-        Verdict::Passed => wanted(e, words::read4(s, 132), w, list),
+        Verdict::Passed => from_question(e, question, w, list),
     }
 }
 
@@ -144,13 +148,13 @@ pub fn list(s: &[u8], list: &mut [u8]) -> Outcome
 {
     match elements::reading::read(s) {
         Reading::Refused(r) => Outcome::Refused(r),
-        Reading::Read(e) => accepted(s, e, list),
+        Reading::Read(e) => from_window(e, words::read4(s, 132), window(s), list),
     }
 }
 
 // ---- what the program writes for a record
 
-// The job number of a whole record; a short piece has none.
+// The job number of a whole record; any other piece has none.
 fn job_number(s: &[u8]) -> u32
     ensures { λ r. ⌜ r ≡ jobOf (now (s .entry)) ⌝ }
 {
@@ -161,6 +165,7 @@ fn job_number(s: &[u8]) -> u32
     }
 }
 
+// How many intervals the list has.
 fn intervals(o: Outcome) -> usize
     ensures { λ r. ⌜ r ≡ intervalsOf o ⌝ }
 {
@@ -173,6 +178,7 @@ fn intervals(o: Outcome) -> usize
     }
 }
 
+// The record behind a job's intervals.
 fn closing(job: u32, o: Outcome) -> Interval
     ensures { λ r. ⌜ r ≡ closingOf job o ⌝ }
 {

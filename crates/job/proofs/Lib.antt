@@ -1,0 +1,6 @@
+-- The laws of one job.
+pub mod Laws
+pub mod Cases
+pub mod Parts
+pub mod Exactly
+pub mod Only

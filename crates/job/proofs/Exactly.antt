@@ -1,12 +1,13 @@
 -- Each refusal is given exactly if its row applies and none before does, a list exactly if every row passes, and what follows from each.
 use Prim.Native.Nat.{ℕ, _≤_, _<_}
-use mathlib.Core.Path.{_≡_, refl, sym, _∙_}
-use mathlib.Core.Logic.{_↔_, _⊎_}
+use mathlib.Core.Path.{_≡_, refl, sym, ap, _∙_}
+use mathlib.Core.Logic.{_↔_, _⊎_, inl, inr}
 use mathlib.Core.Bool.{Bool, not}
 use mathlib.Core.List.{List}
 use native.Mathlib.Omega.{arith}
 use lib.Dec.{T}
 use lib.ListN.{length}
+use lib.Seq.{sets}
 use lib.Ieee.{Float}
 use lib.Ieee.Positive.{positive}
 use Rattle.words.specs.Little.{Bytes}
@@ -27,9 +28,10 @@ use Rattle.elements.proofs.Exactly as reading
 use Rattle.geometry.specs.Placed.{settlesAt}
 use Rattle.finder.specs.declared.Window.{Window}
 use Rattle.finder.specs.Samples.{Good, stepsOf}
-use Rattle.finder.specs.Records.{foundOf, roomOf}
+use Rattle.finder.specs.Spans.{listOf}
+use Rattle.finder.specs.Records.{recordsOf, foundOf, roomOf}
 use Rattle.job.specs.Table.{windowOf, questionOf, badWindow, badStep, badQuestion, noRoom, orbitWith, rowsFromWindow, tableOf}
-use Rattle.job.specs.Outcome.{answersIn, outcomeFrom, recordsFrom, outcomeOf, recordsIn, listAfter}
+use Rattle.job.specs.Outcome.{intervalsOf, askedOf, answersIn, outcomeFrom, recordsFrom, outcomeOf, recordsIn, listAfter}
 use Rattle.job.specs.declared.Outcome.the-variants.{Listed, Refused}
 use Rattle.job.proofs.Laws.{both, good, few-steps, one-or-two, roomy, kepler-passes}
 use Rattle.job.proofs.Cases.{table-parts}
@@ -135,7 +137,30 @@ module _ (s : List ℕ) (room : ℕ) where
       let exactly = passed-exactly (tableOf s room) in
       (λ h. exactly .0 (listed-first _ _ h), λ p. first-listed (exactly .1 p))
 
+  -- a list or a refusal
+  pub list-or-refusal : (outcomeOf s room ≡ Listed (foundOf (answersIn s) (windowOf s) .intervals) (foundOf (answersIn s) (windowOf s) .asked)) ⊎ ((r : Refusal) × (outcomeOf s room ≡ Refused r))
+  list-or-refusal = by (first (tableOf s room)) refl
+    where
+      by : (v : Verdict) → first (tableOf s room) ≡ v → (outcomeOf s room ≡ Listed (foundOf (answersIn s) (windowOf s) .intervals) (foundOf (answersIn s) (windowOf s) .asked)) ⊎ ((r : Refusal) × (outcomeOf s room ≡ Refused r))
+      by verdict.Passed e = inl (first-listed e)
+      by (verdict.Refused r) e = inr (r, first-refused r e)
+
   module _ {n asked : ℕ} (h : outcomeOf s room ≡ Listed n asked) where
+    -- with the numbers that the finder counts
+    same : Listed n asked ≡ Listed (foundOf (answersIn s) (windowOf s) .intervals) (foundOf (answersIn s) (windowOf s) .asked)
+    same = sym h ∙ first-listed (listed-first n asked h)
+
+    pub listed-intervals : n ≡ foundOf (answersIn s) (windowOf s) .intervals
+    listed-intervals = ap intervalsOf same
+
+    pub listed-asked : asked ≡ foundOf (answersIn s) (windowOf s) .asked
+    listed-asked = ap askedOf same
+
+    -- the list afterwards has the records
+    pub listed-bytes : (list : List ℕ) → length list ≡ room → listAfter s list ≡ sets list 0 (recordsOf (windowOf s) (listOf (answersIn s) (windowOf s)))
+    unfolding listAfter recordsIn recordsFrom
+    listed-bytes list e = rw (e, listed-first n asked h)
+
     passes : Passes (tableOf s room)
     passes = passed-exactly (tableOf s room) .0 (listed-first n asked h)
 

@@ -4,3 +4,5 @@ pub mod Cases
 pub mod Parts
 pub mod Exactly
 pub mod Only
+pub mod Written
+pub mod Promises

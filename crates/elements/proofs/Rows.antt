@@ -30,7 +30,7 @@ abbrev pub Told : List ℕ → ℕ → Refusal → Type 0
 Told s n r = (orderOf r ≡ n) × (WholeRecord s → Bytes s → Returns s r)
 
 -- of a row that names no field
-plain : (s : List ℕ) (test : Bool) (q r : Refusal) → fieldOf q ≡ 0 → when test q ≡ verdict.Refused r → Told s (orderOf q) r
+pub plain : (s : List ℕ) (test : Bool) (q r : Refusal) → fieldOf q ≡ 0 → when test q ≡ verdict.Refused r → Told s (orderOf q) r
 plain s test q r none h =
     let e : fieldOf r ≡ 0 = ap fieldOf (sym (when-refused test q r h .1)) ∙ none in
     (when-order test q r h, λ w b named. absurd (omega arith))

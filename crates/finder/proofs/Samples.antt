@@ -2,7 +2,7 @@
 use Prim.Native.Nat.{ℕ, zero, suc, _+_, _-_, _*_, _/_, _≤_, _<_, min}
 use mathlib.Core.Path.{_≡_, refl, sym, ap, subst, _∙_}
 use native.Mathlib.Omega.{arith}
-use native.Mathlib.Nat.{div-add-mod', mod-lt, div-le-self, suc-mul}
+use native.Mathlib.Nat.{zero-add, div-add-mod', mod-lt, div-le-self, suc-mul}
 use lib.ListN.{length}
 use Rattle.finder.specs.declared.Window.{Window}
 use Rattle.finder.specs.Samples.{Good, ceilDiv, stepsOf, sampleAt, samplesFrom, samples}
@@ -53,7 +53,7 @@ module _ (w : Window) where
     samples-rise = subst (λ (a : ℕ). Rising a (samplesFrom w 1 (stepsOf w))) (sym sample-first) (rise-from 0 (stepsOf w))
 
     -- n steps reach t1
-    sample-end : sampleAt w (0 + stepsOf w) ≡ w .t1
+    pub sample-end : sampleAt w (stepsOf w) ≡ w .t1
     unfolding sampleAt stepsOf
     sample-end =
         let x = w .t1 - w .t0 + (w .step - 1) in
@@ -62,4 +62,4 @@ module _ (w : Window) where
     -- so t1 is the last sample
     pub samples-end : lastOf (w .t0) (samples w) ≡ w .t1
     unfolding samples
-    samples-end = ap (λ (a : ℕ). lastOf a (samples w)) sample-first ∙ samples-last 0 (stepsOf w) ∙ sample-end
+    samples-end = ap (λ (a : ℕ). lastOf a (samples w)) sample-first ∙ samples-last 0 (stepsOf w) ∙ ap (sampleAt w) (zero-add (stepsOf w)) ∙ sample-end

@@ -5,7 +5,7 @@ use mathlib.Core.Logic.{_↔_}
 use mathlib.Core.Bool.{Bool, true, false}
 use mathlib.Core.List.{List, [], _∷_, _++_}
 use native.Mathlib.Omega.{arith}
-use lib.ListN.{take, drop, take-append-drop}
+use lib.ListN.{length, take, drop, take-append-drop}
 use Rattle.refusal.specs.Refusal.{orderOf}
 use Rattle.refusal.specs.Rows.{when, _then_, first, rowAt, Gives, Passes}
 use Rattle.refusal.specs.declared.Refusal.{Refusal}
@@ -117,6 +117,13 @@ module _ {Q : ℕ → Refusal → Type 0} where
   pub each-weaker : {R : ℕ → Refusal → Type 0} → ((n : ℕ) (r : Refusal) → Q n r → R n r) → {n : ℕ} {vs : List Verdict} → Each Q n vs → Each R n vs
   each-weaker f done = done
   each-weaker f {n} (own also rest) = (λ r h. f n r (own r h)) also each-weaker f rest
+
+  -- a table in two parts
+  pub each-append : {n : ℕ} (xs ys : List Verdict) → Each Q n xs → Each Q (n + length xs) ys → Each Q n (xs ++ ys)
+  each-append {n} [] ys done all = let same : n + 0 ≡ n = omega arith in subst (λ (m : ℕ). Each Q m ys) same all
+  each-append {n} (x ∷ xs) ys (own also rest) all =
+      let same : n + suc (length xs) ≡ suc n + length xs = omega arith in
+      own also each-append xs ys rest (subst (λ (m : ℕ). Each Q m ys) same all)
 
 -- ---- each refusal has its own row
 

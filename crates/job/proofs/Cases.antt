@@ -1,0 +1,101 @@
+-- The job's cases, each from what its parts answered: a refusal stops, and a pass hands on to the rows behind it.
+use Prim.Native.Nat.{ℕ}
+use mathlib.Core.Path.{_≡_, refl, sym, ap, _∙_}
+use mathlib.Core.Bool.{Bool}
+use mathlib.Core.List.{List}
+use lib.ListN.{length}
+use lib.Seq.{sets}
+use Rattle.refusal.specs.Rows.{_then_, first}
+use Rattle.refusal.specs.declared.Refusal.{Refusal}
+use Rattle.refusal.specs.declared.Verdict.{Verdict}
+use Rattle.refusal.specs.declared.Verdict.the-variants as verdict
+use Rattle.refusal.proofs.Order.{first-append, then-assoc, first-exactly, passed-exactly}
+use Rattle.elements.specs.Reading.{recordRows, elementsOf, readingOf}
+use Rattle.elements.specs.declared.reading.Elements.{Elements}
+use Rattle.elements.specs.declared.reading.Reading.the-variants as reading
+use Rattle.elements.proofs.Rows.{ordered}
+use Rattle.elements.proofs.Exactly.{read-exactly, refused-exactly}
+use Rattle.finder.specs.declared.Window.{Window}
+use Rattle.finder.specs.declared.Found.{Found}
+use Rattle.finder.specs.Spans.{listOf}
+use Rattle.finder.specs.Records.{recordsOf, foundOf}
+use Rattle.job.specs.Table.{windowOf, questionOf, windowRow, stepRow, questionRow, roomRow, keplerRow, rowsFromSearch, rowsFromQuestion, rowsFromWindow, tableOf}
+use Rattle.job.specs.Outcome.{answersOf, answersIn, outcomeFrom, recordsFrom, outcomeOf, recordsIn, listAfter}
+use Rattle.job.specs.declared.Outcome.{Outcome}
+use Rattle.job.specs.declared.Outcome.the-variants.{Listed, Refused}
+
+-- ---- by a verdict
+
+module _ (f : ℕ → Bool) (w : Window) (old : List ℕ) where
+  -- the answer r and the bytes `new` are those of the verdict v
+  abbrev pub Answers : Verdict → Outcome → List ℕ → Type 0
+  Answers v r new = (r ≡ outcomeFrom v f w) × (new ≡ sets old 0 (recordsFrom v f w))
+
+  pub refused : (v : Verdict) (r : Refusal) → v ≡ verdict.Refused r → Answers v (Refused r) old
+  unfolding outcomeFrom recordsFrom
+  refused v r h = rw h (refl, refl)
+
+  pub listed : (v : Verdict) (n : Found) (new : List ℕ) → v ≡ verdict.Passed → n ≡ foundOf f w → new ≡ sets old 0 (recordsOf w (listOf f w)) → Answers v (Listed (n .intervals) (n .asked)) new
+  unfolding outcomeFrom recordsFrom
+  listed v n new h a b = rw (h, a) (refl, b)
+
+-- ---- a table in two parts
+
+module _ (v a b : Verdict) (parts : v ≡ (a then b)) where
+  stops : (r : Refusal) → a ≡ verdict.Refused r → v ≡ verdict.Refused r
+  unfolding _then_
+  stops r h = parts ∙ rw h
+
+  goes : a ≡ verdict.Passed → v ≡ b
+  unfolding _then_
+  goes h = parts ∙ rw h
+
+-- 8 and 9, then 10
+module _ (e : Elements) (w : Window) (q room : ℕ) where
+  question-parts : first (rowsFromQuestion e w q room) ≡ ((questionRow q then roomRow w room) then first (rowsFromSearch e w))
+  unfolding first
+  question-parts = sym (then-assoc (questionRow q) (roomRow w room) (first (rowsFromSearch e w)))
+
+  pub question-stops : (r : Refusal) → (questionRow q then roomRow w room) ≡ verdict.Refused r → first (rowsFromQuestion e w q room) ≡ verdict.Refused r
+  question-stops = stops _ _ _ question-parts
+
+  pub question-goes : (questionRow q then roomRow w room) ≡ verdict.Passed → first (rowsFromQuestion e w q room) ≡ first (rowsFromSearch e w)
+  question-goes = goes _ _ _ question-parts
+
+-- 6 and 7, then 8 to 10
+module _ (e : Elements) (w : Window) (q room : ℕ) where
+  window-parts : first (rowsFromWindow e w q room) ≡ ((windowRow w then stepRow w) then first (rowsFromQuestion e w q room))
+  unfolding first
+  window-parts = sym (then-assoc (windowRow w) (stepRow w) (first (rowsFromQuestion e w q room)))
+
+  pub window-stops : (r : Refusal) → (windowRow w then stepRow w) ≡ verdict.Refused r → first (rowsFromWindow e w q room) ≡ verdict.Refused r
+  window-stops = stops _ _ _ window-parts
+
+  pub window-goes : (windowRow w then stepRow w) ≡ verdict.Passed → first (rowsFromWindow e w q room) ≡ first (rowsFromQuestion e w q room)
+  window-goes = goes _ _ _ window-parts
+
+-- 1 to 5, then 6 to 10
+module _ (s : List ℕ) (room : ℕ) where
+  pub table-parts : first (tableOf s room) ≡ (first (recordRows s) then first (rowsFromWindow (elementsOf s) (windowOf s) (questionOf s) room))
+  unfolding tableOf
+  table-parts = first-append (recordRows s) (rowsFromWindow (elementsOf s) (windowOf s) (questionOf s) room)
+
+-- ---- the whole job
+
+module _ (s old : List ℕ) where
+  abbrev Meets : Outcome → List ℕ → Type 0
+  Meets r new = (r ≡ outcomeOf s (length old)) × (new ≡ listAfter s old)
+
+  pub unread : (r : Refusal) → readingOf s ≡ reading.Refused r → Meets (Refused r) old
+  unfolding outcomeOf listAfter recordsIn
+  unread r h =
+      let gives = first-exactly (recordRows s) (ordered s) r .1 (refused-exactly s r .0 h) in
+      refused (answersIn s) (windowOf s) old (first (tableOf s (length old))) r (stops _ _ _ (table-parts s (length old)) r gives)
+
+  pub was-read : (e : Elements) (r : Outcome) (new : List ℕ) → readingOf s ≡ reading.Read e
+      → Answers (answersOf e (questionOf s)) (windowOf s) old (first (rowsFromWindow e (windowOf s) (questionOf s) (length old))) r new → Meets r new
+  unfolding outcomeOf listAfter recordsIn
+  was-read e r new h a =
+      let p = read-exactly s e .0 h in
+      let passed = passed-exactly (recordRows s) .1 (p .0) in
+      rw (goes _ _ _ (table-parts s (length old)) passed) (rw (p .1) at a)

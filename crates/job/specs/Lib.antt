@@ -1,0 +1,4 @@
+-- The definitions of one job.
+pub mod Table
+pub mod Outcome
+pub mod Reply

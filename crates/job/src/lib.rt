@@ -1,0 +1,215 @@
+// One job whole: a record's bytes and a lent list in, the outcome out; and what the program writes for one record.
+ghost use mathlib.Core.Path.{_≡_};
+ghost use lib.ListN.{length};
+ghost use lib.Seq.{sets};
+ghost use Rattle.refusal.specs.Rows.{_then_};
+ghost use Rattle.elements.specs.Accepted.{Accepted};
+ghost use Rattle.elements.specs.Reading.{WholeRecord};
+ghost use Rattle.finder.specs.Samples.{Good};
+ghost use Rattle.finder.specs.Records.{HasRoom};
+ghost use Rattle.job.specs.Table.{windowOf, badWindow, badStep, badQuestion, noRoom, windowRow, stepRow, questionRow, roomRow, rowsFromSearch, rowsFromQuestion, rowsFromWindow};
+ghost use Rattle.job.specs.Outcome.{intervalsOf, outcomeBy, recordsBy, outcomeOf, listAfter};
+ghost use Rattle.job.specs.Reply.{jobOf, closingOf, replyOf};
+use elements::reading::Elements;
+use elements::reading::Reading;
+use finder::Window;
+use interval::Interval;
+use refusal::Refusal;
+use refusal::Verdict;
+use refusal::row;
+use refusal::then;
+
+// The number of intervals and of instants asked, or why the job is turned away.
+pub enum Outcome {
+    Listed { intervals: usize, asked: u64 },
+    Refused(Refusal),
+}
+
+// The window that stands behind a record's fields.
+fn window(s: &[u8]) -> Window
+    requires { ⌜ WholeRecord (now s) ⌝ }
+    ensures { λ r. ⌜ r ≡ windowOf (now (s .entry)) ⌝ }
+{
+    Window {
+        job: words::read4(s, 0),
+        t0: words::read8(s, 112),
+        t1: words::read8(s, 120),
+        step: words::read4(s, 128) as u64,
+    }
+}
+
+// ---- refusals 6 and 7
+
+// t0 ≥ t1, or t1 past the last end of a window.
+fn bad_window(w: Window) -> bool
+    ensures { λ r. ⌜ r ≡ badWindow w ⌝ }
+{
+    w.t1 <= w.t0 || 2678400000 < w.t1
+}
+
+// A step of 0, too long a step, or more than 4,096 of them. No division, so that a step of 0 does no harm.
+fn bad_step(w: Window) -> bool
+    ensures { λ r. ⌜ r ≡ badStep w ⌝ }
+{
+    if w.step == 0 {
+        return true;
+    }
+    if 1048576 < w.step {
+        return true;
+    }
+    if w.t1 <= w.t0 {
+        return false;
+    }
+    4096 * w.step < w.t1 - w.t0
+}
+
+// Rows 6 and 7.
+fn window_and_step(w: Window) -> Verdict
+    ensures { λ v. ⌜ v ≡ (windowRow w then stepRow w) ⌝ }
+{
+    let v = row(bad_window(w), Refusal::Window);
+    then(v, row(bad_step(w), Refusal::Step))
+}
+
+// ---- refusals 8 and 9
+
+// Neither 1 nor 2.
+fn bad_question(question: u32) -> bool
+    ensures { λ r. ⌜ r ≡ badQuestion question ⌝ }
+{
+    question != 1 && question != 2
+}
+
+// Less than 24·ceil((n+1)/2) bytes, n steps.
+fn no_room(w: Window, room: usize) -> bool
+    requires { ⌜ Good w ⌝ }
+    ensures { λ r. ⌜ r ≡ noRoom w room ⌝ }
+{
+    (room as u64) < 24 * ((finder::steps(w) + 2) / 2)
+}
+
+// Rows 8 and 9.
+fn question_and_room(w: Window, question: u32, room: usize) -> Verdict
+    requires { ⌜ Good w ⌝ }
+    ensures { λ v. ⌜ v ≡ (questionRow question then roomRow w room) ⌝ }
+{
+    let v = row(bad_question(question), Refusal::Question);
+    then(v, row(no_room(w, room), Refusal::Room))
+}
+
+// ---- the job
+
+// Row 10, and then the list. The sine table is made here, once, and lent to all that reads it; so a job that an earlier row refuses makes none.
+fn from_search(e: Elements, question: u32, w: Window, list: &mut [u8]) -> Outcome
+    requires { ⌜ (Accepted e) × (Good w) × (HasRoom w (now list)) ⌝ }
+    ensures { λ r. ⌜ r ≡ outcomeBy (rowsFromSearch e w) e question w ⌝ }
+    ensures { λ _. ⌜ now (list .exit) ≡ sets (now (list .entry)) 0 (recordsBy (rowsFromSearch e w) e question w) ⌝ }
+{
+    let t = sine::table();
+    let o = geometry::prepare(&t, elements::rounding::rounded(e));
+    if !geometry::settles(&t, o, w.t0) {
+        return Outcome::Refused(Refusal::Kepler);
+    }
+    let f = finder::list(&t, o, question, w, list);
+    Outcome::Listed {
+        intervals: f.intervals,
+        asked: f.asked,
+    }
+}
+
+// Rows 8 to 10, and then the list.
+fn from_question(e: Elements, question: u32, w: Window, list: &mut [u8]) -> Outcome
+    requires { ⌜ (Accepted e) × (Good w) ⌝ }
+    ensures { λ r. ⌜ r ≡ outcomeBy (rowsFromQuestion e w question (length (now (list .entry)))) e question w ⌝ }
+    ensures { λ _. ⌜ now (list .exit) ≡ sets (now (list .entry)) 0 (recordsBy (rowsFromQuestion e w question (length (now (list .entry)))) e question w) ⌝ }
+{
+    match question_and_room(w, question, list.len()) {
+        Verdict::Refused(r) => Outcome::Refused(r),
+        Verdict::Passed => from_search(e, question, w, list),
+    }
+}
+
+// Rows 6 to 10, and then the list.
+fn from_window(e: Elements, question: u32, w: Window, list: &mut [u8]) -> Outcome
+    requires { ⌜ Accepted e ⌝ }
+    ensures { λ r. ⌜ r ≡ outcomeBy (rowsFromWindow e w question (length (now (list .entry)))) e question w ⌝ }
+    ensures { λ _. ⌜ now (list .exit) ≡ sets (now (list .entry)) 0 (recordsBy (rowsFromWindow e w question (length (now (list .entry)))) e question w) ⌝ }
+{
+    match window_and_step(w) {
+        Verdict::Refused(r) => Outcome::Refused(r),
+        Verdict::Passed => from_question(e, question, w, list),
+    }
+}
+
+// One job: its intervals in `list` from byte 0, or the first refusal that applies and `list` as it was.
+pub fn list(s: &[u8], list: &mut [u8]) -> Outcome
+    ensures { λ r. ⌜ r ≡ outcomeOf (now (s .entry)) (length (now (list .entry))) ⌝ }
+    ensures { λ _. ⌜ now (list .exit) ≡ listAfter (now (s .entry)) (now (list .entry)) ⌝ }
+{
+    match elements::reading::read(s) {
+        Reading::Refused(r) => Outcome::Refused(r),
+        Reading::Read(e) => from_window(e, words::read4(s, 132), window(s), list),
+    }
+}
+
+// ---- what the program writes for a record
+
+// The job number of a whole record; any other piece has none.
+fn job_number(s: &[u8]) -> u32
+    ensures { λ r. ⌜ r ≡ jobOf (now (s .entry)) ⌝ }
+{
+    if s.len() == 136 {
+        words::read4(s, 0)
+    } else {
+        0
+    }
+}
+
+// How many intervals the list has.
+fn intervals(o: Outcome) -> usize
+    ensures { λ r. ⌜ r ≡ intervalsOf o ⌝ }
+{
+    match o {
+        Outcome::Listed {
+            intervals,
+            asked: _,
+        } => intervals,
+        Outcome::Refused(_) => 0,
+    }
+}
+
+// The record behind a job's intervals.
+fn closing(job: u32, o: Outcome) -> Interval
+    ensures { λ r. ⌜ r ≡ closingOf job o ⌝ }
+{
+    match o {
+        Outcome::Listed { intervals, asked } => Interval {
+            job,
+            flags: 512,
+            first: intervals as u64,
+            last: asked,
+        },
+        Outcome::Refused(r) => Interval {
+            job,
+            flags: 256 + refusal::number(r),
+            first: refusal::field(r) as u64,
+            last: 0,
+        },
+    }
+}
+
+// One record's answer from byte 0 of `out`, and how many bytes it has. The list is lent all of `out` but the closing record's 24 bytes;
+// where there are not even those, nothing is written.
+pub fn reply(s: &[u8], out: &mut [u8]) -> usize
+    ensures { λ r. ⌜ r ≡ length (replyOf (now (s .entry)) (length (now (out .entry)))) ⌝ }
+    ensures { λ _. ⌜ now (out .exit) ≡ sets (now (out .entry)) 0 (replyOf (now (s .entry)) (length (now (out .entry)))) ⌝ }
+{
+    let room = out.len();
+    if room < 24 {
+        return 0;
+    }
+    let o = list(s, &mut out[..room - 24]);
+    let at = 24 * intervals(o);
+    interval::write(out, at, closing(job_number(s), o));
+    at + 24
+}

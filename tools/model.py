@@ -1,14 +1,15 @@
-"""Document 01's rules in exact arithmetic: from an orbit record to where the craft is, whether it is hidden and whether the planet is up.
+"""Document 01's rules in exact arithmetic: from an orbit record to what one instant answers, and from the program's input to its output.
 
 One function for each rule, in document 01's order and letters. It uses nothing of the crates, so that their numbers can be held against it;
-but it is no independent reading of document 01 (docs/DECISIONS.md, "The stored output"). Whole numbers and fractions only. // is Python's floor, toward minus infinity. The record is
-supposed to be one that document 01 accepts. `at(orbit(record), t)` is the whole of it.
+but it is no independent reading of document 01 (docs/DECISIONS.md, "The stored output"). Whole numbers and fractions only, but for the closest
+distance, which document 01 wants in floats. // is Python's floor, toward minus infinity. `at(orbit(record), t)` is one instant of a record that
+document 01 accepts, and `output(records)` is what the program writes.
 """
 from collections import namedtuple
 from fractions import Fraction
 from functools import cache
 from math import factorial, floor, isqrt
-from struct import unpack
+from struct import pack, unpack
 
 ONE = 2**30
 QUARTER = 2**30
@@ -176,3 +177,147 @@ def at(o, t):
     X, Y = place(o, t)
     d = depth(o, X, Y)
     return Instant(X, Y, d, hidden(o.R, X, Y, d), up(o, t))
+
+
+def answer(o, question, t):
+    """Question 1: hidden. Question 2: visible, which is up and not hidden."""
+    i = at(o, t)
+    return i.hidden if question == 1 else i.up and not i.hidden
+
+
+# ---- Turned away
+
+def within(low, high):
+    return lambda x: low <= x <= high
+
+
+def turn(x):
+    return 0 <= x < 360
+
+
+ACCEPTED = [
+    within(100, 250_000),
+    within(0, Fraction(95, 100)),
+    within(0, 180),
+    turn,
+    turn,
+    within(60, 2_000_000),
+    within(1, 100_000),
+    turn,
+    within(-90, 90),
+    within(-90, 90),
+    turn,
+    turn,
+    within(0, 90),
+]
+
+
+def field_refusal(fields):
+    """3 before 4 for each field, the fields in number order."""
+    for k, (bits, accepted) in enumerate(zip(fields, ACCEPTED), 1):
+        if bits >> 52 & 0x7FF == 0x7FF:
+            return 3, k
+        if not accepted(exact(bits)):
+            return 4, k
+    return None
+
+
+def too_close(fields):
+    """The closest distance is a × (1 − e), each operation rounded once: Python's floats are binary64. It must be greater than R."""
+    a, e, R = (unpack("<d", pack("<Q", fields[k - 1]))[0] for k in (1, 2, 7))
+    return not a * (1 - e) > R
+
+
+def steps(t0, t1, step):
+    return -((t0 - t1) // step)
+
+
+def refusal(piece, room):
+    """The first that applies: its number and field. None for a job that is taken. 10 never applies: 32 halvings of 2^32 end at neighbours."""
+    if len(piece) != 136:
+        return 1, 0
+    r = read(piece)
+    if r.word != 0:
+        return 2, 0
+    if refused := field_refusal(r.fields):
+        return refused
+    if too_close(r.fields):
+        return 5, 0
+    if r.t0 >= r.t1 or r.t1 > 2_678_400_000:
+        return 6, 0
+    if r.step == 0 or r.step > 1_048_576 or steps(r.t0, r.t1, r.step) > 4096:
+        return 7, 0
+    if r.question not in (1, 2):
+        return 8, 0
+    if room < 24 * -(-(steps(r.t0, r.t1, r.step) + 1) // 2):
+        return 9, 0
+    return None
+
+
+# ---- The list
+
+def samples(t0, t1, step):
+    """t0, t0 + step, .., and t1 last."""
+    return [*range(t0, t1, step), t1]
+
+
+def change(yes, low, high):
+    """The neighbours in a step whose ends differ, and the halvings that found them."""
+    at_low, halvings = yes(low), 0
+    while high - low > 1:
+        middle = (low + high) // 2
+        if yes(middle) == at_low:
+            low = middle
+        else:
+            high = middle
+        halvings += 1
+    return low, high, halvings
+
+
+def intervals(yes, t0, t1, step):
+    """The list, and the instants asked: n + 1 samples and one per halving."""
+    found, times = [], samples(t0, t1, step)
+    answers = [yes(t) for t in times]
+    asked = len(times)
+    first = t0 if answers[0] else None
+    for k in range(len(times) - 1):
+        if answers[k] == answers[k + 1]:
+            continue
+        low, high, halvings = change(yes, times[k], times[k + 1])
+        asked += halvings
+        if answers[k]:
+            found.append((first, low))
+        else:
+            first = high
+    if answers[-1]:
+        found.append((first, t1))
+    return found, asked
+
+
+# ---- What the desk gets
+
+ROOM = 24 * 2049
+
+
+def interval_record(job, flags, first, last):
+    return pack("<IIQQ", job, flags, first, last)
+
+
+def flags(first, last, t0, t1):
+    return 1 * (first == t0) + 2 * (last == t1)
+
+
+def reply(piece):
+    """A piece's intervals and its closing record; in the program there is room for any list. A short piece has job 0."""
+    if refused := refusal(piece, ROOM):
+        number, field = refused
+        return interval_record(read(piece).job if number > 1 else 0, 256 + number, field, 0)
+    r, o = read(piece), orbit(piece)
+    found, asked = intervals(lambda t: answer(o, r.question, t), r.t0, r.t1, r.step)
+    records = [interval_record(r.job, flags(first, last, r.t0, r.t1), first, last) for first, last in found]
+    return b"".join(records) + interval_record(r.job, 512, len(found), asked)
+
+
+def output(records):
+    """What the program writes for its whole input."""
+    return b"".join(reply(records[at : at + 136]) for at in range(0, len(records), 136))

@@ -1,0 +1,148 @@
+-- The laws of the program's buffers: a piece, stores in the rest of a buffer, and the answers one behind the other.
+use Prim.Native.Nat.{ℕ, zero, suc, _+_, _-_, _*_, _≤_, _<_, min}
+use mathlib.Core.Path.{_≡_, refl, sym, ap, _∙_}
+use mathlib.Core.Bool.{Bool, true, false}
+use mathlib.Core.List.{List, [], _∷_, _++_, append-assoc, append-nil}
+use native.Mathlib.Omega.{arith}
+use native.Mathlib.Nat.{zero-add}
+use native.Mathlib.Numerals.{add-one}
+use lib.Dec.{leb}
+use borrow.Author.Tests.{leb-true, leb-false}
+use lib.ListN.{length, getD, set, take, drop, length-append, length-drop, length-take}
+use lib.Seq.{sets, sets-eq, length-sets, length-take-le, take-all, take-suc, drop-length, drop-drop, getD-drop, getD-append-add}
+use Rattle.job.specs.Reply.{replyOf}
+use Rattle.job.proofs.Parts.{reply-fits}
+use Rattle.interval.proofs.Laws.{sets-append}
+use Rattle.lists.specs.Replies.{pieceOf, repliesOf, Roomy}
+
+-- ---- a piece
+
+-- up to its end, which is 136 bytes on or the end of s
+pub piece-is : (n : ℕ) (s : List ℕ) (end : ℕ) → end ≡ min (136 * n + 136) (length s) → take (end - 136 * n) (drop (136 * n) s) ≡ pieceOf n s
+piece-is n s end e = by (leb (136 * n + 136) (length s)) refl
+  where
+    by : (b : Bool) → leb (136 * n + 136) (length s) ≡ b → take (end - 136 * n) (drop (136 * n) s) ≡ pieceOf n s
+    by true t =
+        let full : end - 136 * n ≡ 136 = omega (arith, leb-true (136 * n + 136) (length s) t) in
+        rw full
+    by false t =
+        let short : length (drop (136 * n) s) ≤ 136 = simp length-drop (omega (arith, leb-false (136 * n + 136) (length s) t)) in
+        let all : length (drop (136 * n) s) ≤ end - 136 * n = simp length-drop (omega (arith, leb-false (136 * n + 136) (length s) t)) in
+        take-all (end - 136 * n) (drop (136 * n) s) all ∙ sym (take-all 136 (drop (136 * n) s) short)
+
+-- ---- stores in the rest of a buffer
+
+-- what was stored from byte 0 of the rest on was stored from `used` on
+pub rest-sets : (xs l ys : List ℕ) (used : ℕ) → used + length xs ≤ length l → ys ≡ sets (take (length l - used) (drop used l)) 0 xs → take used l ++ (ys ++ drop (length l - used) (drop used l)) ≡ sets l used xs
+rest-sets xs l ys used h e =
+    let end : used + (length l - used) ≡ length l = omega arith in
+    let rest : take (length l - used) (drop used l) ≡ drop used l = take-all (length l - used) (drop used l) (simp length-drop (omega arith)) in
+    let none : drop (length l - used) (drop used l) ≡ [] = rw (drop-drop (length l - used) used l, end) (drop-length l) in
+    let fits : 0 + length xs ≤ length (drop used l) = simp length-drop (omega arith) in
+    rw (e, rest, none, append-nil (sets (drop used l) 0 xs), sets-eq xs (drop used l) 0 fits, sets-eq xs l used h, zero-add (length xs), drop-drop (length xs) used l)
+    (sym (append-assoc (take used l) xs (drop (used + length xs) l)))
+
+-- ---- one answer
+
+-- piece n of s was answered in the rest of `out`: `new` stands there, of which r bytes are the answer's
+module _ (s out : List ℕ) (n end used r : ℕ) (new : List ℕ) (h : used ≤ length out) (e : end ≡ min (136 * n + 136) (length s))
+    (told : r ≡ length (replyOf (take (end - 136 * n) (drop (136 * n) s)) (length (take (length out - used) (drop used out)))))
+    (left : new ≡ sets (take (length out - used) (drop used out)) 0 (replyOf (take (end - 136 * n) (drop (136 * n) s)) (length (take (length out - used) (drop used out))))) where
+  reply : List ℕ
+  reply = replyOf (pieceOf n s) (length out - used)
+
+  room : length (take (length out - used) (drop used out)) ≡ length out - used
+  room = simp (length-take, length-drop) (omega arith)
+
+  length-is : r ≡ length reply
+  unfolding reply
+  length-is = told ∙ rw (piece-is n s end e, room)
+
+  pub answer-fits : used + r ≤ length out
+  unfolding reply
+  answer-fits = omega (arith, length-is, reply-fits (pieceOf n s) (length out - used))
+
+  pub answer-stands : (used + r ≡ used + length (replyOf (pieceOf n s) (length out - used))) × (take used out ++ (new ++ drop (length out - used) (drop used out)) ≡ sets out used (replyOf (pieceOf n s) (length out - used)))
+  unfolding reply
+  answer-stands =
+      (ap (λ (k : ℕ). used + k) length-is, rest-sets reply out new used (omega (arith, length-is, answer-fits)) (left ∙ rw (piece-is n s end e, room)))
+
+-- ---- the answers one behind the other
+
+-- they fit
+pub replies-fit : (n : ℕ) (s : List ℕ) (room : ℕ) → length (repliesOf n s room) ≤ room
+unfolding repliesOf
+replies-fit zero s room = omega arith
+replies-fit (suc n) s room = simp length-append (omega (arith, replies-fit n s room, reply-fits (pieceOf n s) (room - length (repliesOf n s room))))
+
+-- the answers to n pieces stand in `out`, which was `old`, in its first `used` bytes
+pub record Stand (n : ℕ) (s old out : List ℕ) (used : ℕ) : Type 0 where
+  pub counted : used ≡ length (repliesOf n s (length old))
+  pub stored : out ≡ sets old 0 (repliesOf n s (length old))
+
+nothing : (s : List ℕ) (room : ℕ) → length (repliesOf 0 s room) ≡ 0
+unfolding repliesOf
+nothing s room = refl
+
+-- no piece yet
+pub stand-none : (s old : List ℕ) → Stand 0 s old old 0
+unfolding repliesOf
+stand-none s old = record { counted = refl; stored = refl }
+
+module _ {n : ℕ} {s old out : List ℕ} {used : ℕ} (stand : Stand n s old out used) where
+  -- they leave the buffer as long as it was
+  pub stand-long : length out ≡ length old
+  stand-long = ap length (stand .stored) ∙ length-sets old 0 (repliesOf n s (length old))
+
+  -- and are in it
+  pub stand-fit : used ≤ length out
+  stand-fit = omega (arith, stand .counted, stand-long, replies-fit n s (length old))
+
+  -- without room there is one
+  pub stand-some : Roomy old → length out - used < 49200 → 0 < n
+  stand-some roomy full = by n refl
+    where
+      by : (k : ℕ) → n ≡ k → 0 < k
+      by zero e = absurd (omega (arith, stand-long, ap (λ (k : ℕ). length (repliesOf k s (length old))) e, nothing s (length old)))
+      by (suc k) e = omega arith
+
+  -- one more
+  pub stand-more : {out′ : List ℕ} {used′ : ℕ} → used′ ≡ used + length (replyOf (pieceOf n s) (length out - used)) → out′ ≡ sets out used (replyOf (pieceOf n s) (length out - used)) → Stand (n + 1) s old out′ used′
+  unfolding repliesOf
+  stand-more u o =
+      let before = repliesOf n s (length old) in
+      let reply = replyOf (pieceOf n s) (length old - length before) in
+      rw add-one
+      (record {
+        counted = u ∙ rw (stand-long, stand .counted) (sym (length-append before reply));
+        stored = o ∙ rw (stand-long, stand .counted, stand .stored) (sym (rw zero-add at (sets-append before reply old 0)));
+      })
+
+-- ---- bytes that are moved to the start
+
+-- i of them have been
+pub record Moved (from i : ℕ) (old buf : List ℕ) : Type 0 where
+  pub moved : buf ≡ sets old 0 (take i (drop from old))
+
+pub moved-none : (from : ℕ) (old : List ℕ) → Moved from 0 old old
+moved-none from old = record { moved = refl }
+
+module _ {from i : ℕ} {old buf : List ℕ} (m : Moved from i old buf) where
+  pub moved-long : length buf ≡ length old
+  moved-long = ap length (m .moved) ∙ length-sets old 0 (take i (drop from old))
+
+  -- one more
+  pub moved-more : from + i < length old → Moved from (i + 1) old (set buf i (getD buf (from + i) 0))
+  moved-more h =
+      let xs = take i (drop from old) in
+      let long : length xs ≡ i = length-take-le i (drop from old) (simp length-drop (omega arith)) in
+      let fits : 0 + length xs ≤ length old = omega (arith, long) in
+      let is : buf ≡ xs ++ drop i old = m .moved ∙ sets-eq xs old 0 fits ∙ rw (zero-add (length xs), long) in
+      let turned : from + i ≡ length xs + from = omega (arith, long) in
+      let back : i + from ≡ from + i = omega arith in
+      let same : getD buf (from + i) 0 ≡ getD (drop from old) i 0 =
+      rw (is, turned, getD-append-add xs (drop i old) from 0, getD-drop i old from 0, back, getD-drop from old i 0) in
+      record {
+        moved =
+            rw (same, m .moved, add-one, take-suc (drop from old) i 0 (simp length-drop (omega arith)), sets-append xs (getD (drop from old) i 0 ∷ []) old 0, zero-add (length xs), long);
+      }

@@ -1,0 +1,137 @@
+// The program: orbit records on standard input, and for each its intervals and a closing record on standard output (document 01, "One job whole").
+// No contract can say what is read or written. What the contracts say is what stands in the buffers between the two.
+ghost use Prim.Native.Nat.{_+_, _-_, _≤_, min};
+ghost use mathlib.Core.Path.{_≡_};
+ghost use lib.ListN.{length, take, drop};
+ghost use lib.Seq.{sets};
+ghost use Rattle.io.specs.Counts.{Counts};
+ghost use Rattle.job.specs.Reply.{replyOf};
+ghost use Rattle.lists.specs.Replies.{pieceOf, repliesOf, Begins, Pieces, Roomy};
+ghost use Rattle.lists.specs.Buffer.{Span, Tail};
+use libc::STDIN_FILENO;
+use libc::STDOUT_FILENO;
+
+const RECORD: usize = 136;
+
+// 2,049 intervals and the closing record: the most that one record is answered with
+const ROOM: usize = 49200;
+
+// How many pieces were answered, and in how many bytes.
+struct Batch {
+    pieces: usize,
+    used: usize,
+}
+
+// The smaller one.
+fn least(a: usize, b: usize) -> usize
+    ensures { λ r. ⌜ r ≡ min a b ⌝ }
+{
+    if a < b { a } else { b }
+}
+
+// The answer to piece n of `src`, behind the `used` bytes of `out`; how many are in use then.
+fn answered(src: &[u8], n: usize, out: &mut [u8], used: usize) -> usize
+    requires { ⌜ (Begins n (now src)) × (used ≤ length (now out)) ⌝ }
+    ensures { λ r. ⌜ r ≡ used + length (replyOf (pieceOf n (now (src .entry))) (length (now (out .entry)) - used)) ⌝ }
+    ensures { λ _. ⌜ now (out .exit) ≡ sets (now (out .entry)) used (replyOf (pieceOf n (now (src .entry))) (length (now (out .entry)) - used)) ⌝ }
+{
+    let at = RECORD * n;
+    let end = least(at + RECORD, src.len());
+    used + job::reply(&src[at..end], &mut out[used..])
+}
+
+// The answers to the first pieces of `src`, one behind the other from byte 0 of `out`, while there is room for any answer.
+fn replies(src: &[u8], out: &mut [u8]) -> Batch
+    requires { ⌜ (Begins 0 (now src)) × (Roomy (now out)) ⌝ }
+    ensures { λ r. ⌜ (Pieces (r .pieces) (now (src .entry))) × (Counts (r .used) (now (out .exit))) ⌝ }
+    ensures { λ r. ⌜ r .used ≡ length (repliesOf (r .pieces) (now (src .entry)) (length (now (out .entry)))) ⌝ }
+    ensures { λ r. ⌜ now (out .exit) ≡ sets (now (out .entry)) 0 (repliesOf (r .pieces) (now (src .entry)) (length (now (out .entry)))) ⌝ }
+{
+    let mut n = 0;
+    let mut used = 0;
+    while RECORD * n < src.len() && ROOM <= out.len() - used {
+        used = answered(src, n, out, used);
+        n += 1;
+    }
+    Batch { pieces: n, used }
+}
+
+// Writes `bytes`; false where that failed, which is said on standard error.
+fn written(bytes: &[u8]) -> bool {
+    if io::write_all(STDOUT_FILENO, bytes) {
+        return true;
+    }
+    os::fail(b"lists: standard output");
+    false
+}
+
+// Answers every piece of `src`, by way of `out`; false where a write failed.
+fn answer(src: &[u8], out: &mut [u8]) -> bool
+    requires { ⌜ Roomy (now out) ⌝ }
+{
+    let mut at = 0;
+    while at < src.len() {
+        let b = replies(&src[at..], out);
+        let used = b.used;
+        if !written(&out[..used]) {
+            return false;
+        }
+        at += RECORD * b.pieces;
+    }
+    true
+}
+
+// Moves the bytes of `buf` from `from` up to `to` to its start.
+fn move_down(buf: &mut [u8], from: usize, to: usize)
+    requires { ⌜ Span from to (now buf) ⌝ }
+    ensures { λ _. ⌜ now (buf .exit) ≡ sets (now (buf .entry)) 0 (take (to - from) (drop from (now (buf .entry)))) ⌝ }
+{
+    let mut i = 0;
+    while i < to - from {
+        buf[i] = buf[from + i];
+        i += 1;
+    }
+}
+
+// One read behind the `kept` bytes of a record that has not come whole, and the answers to those that have; whether to go on.
+fn turn(buf: &mut [u8], kept: &mut usize, out: &mut [u8]) -> bool
+    requires { ⌜ (Tail (now kept) (now buf)) × (Roomy (now out)) ⌝ }
+    ensures { λ _. ⌜ Tail (now (kept .exit)) (now (buf .exit)) ⌝ }
+{
+    let from = *kept;
+    let got = libc::read(STDIN_FILENO, &mut buf[from..]);
+    if got < 0 {
+        os::fail(b"lists: standard input");
+        return false;
+    }
+    if got == 0 {
+        answer(&buf[..from], out);
+        return false;
+    }
+    let filled = from + io::count(got, &buf[from..]);
+    let whole = filled - filled % RECORD;
+    if !answer(&buf[..whole], out) {
+        return false;
+    }
+    move_down(buf, whole, filled);
+    *kept = filled - whole;
+    true
+}
+
+// A proved loop has to end, so it counts its turns down, from a number that no run uses up.
+fn run(buf: &mut [u8], out: &mut [u8])
+    requires { ⌜ (Tail 0 (now buf)) × (Roomy (now out)) ⌝ }
+{
+    let mut turns = u64::MAX;
+    let mut kept = 0;
+    while turns > 0 && turn(buf, &mut kept, out) {
+        turns -= 1;
+    }
+}
+
+// The buffers: 480 records, and their answers.
+fn main() {
+    let mut buf = [0u8; 65280];
+    let mut out = [0u8; 65536];
+    run(&mut buf, &mut out);
+}

@@ -1,4 +1,4 @@
-"""What the tests that drive the program `lists` share: an orbit record by plain numbers, a run, and the count that a test ends with."""
+"""What the tests that drive the programs share: an orbit record by plain numbers, a run, and the count that a test ends with."""
 import subprocess
 import sys
 from pathlib import Path
@@ -12,10 +12,14 @@ def record(job, fields, t0, t1, step, question, word=0):
     return pack("<II13dQQII", job, word, *fields, t0, t1, step, question)
 
 
+def run(program, given):
+    """What a program writes for its whole input. It says nothing on standard error."""
+    done = subprocess.run([str(ROOT / "tools" / "run"), program], input=given, capture_output=True)
+    return done.stdout if done.returncode == 0 and not done.stderr else None
+
+
 def lists(records):
-    """What the program writes for its whole input. It says nothing on standard error."""
-    run = subprocess.run(LISTS, input=records, capture_output=True)
-    return run.stdout if run.returncode == 0 and not run.stderr else None
+    return run("lists", records)
 
 
 class Count:

@@ -52,7 +52,7 @@ module _ (v a b : Verdict) (parts : v ≡ (a then b)) where
 
 -- 8 and 9, then 10
 module _ (e : Elements) (w : Window) (q room : ℕ) where
-  question-parts : first (rowsFromQuestion e w q room) ≡ ((questionRow q then roomRow w room) then first (rowsFromSearch e w))
+  pub question-parts : first (rowsFromQuestion e w q room) ≡ ((questionRow q then roomRow w room) then first (rowsFromSearch e w))
   unfolding first
   question-parts = sym (then-assoc (questionRow q) (roomRow w room) (first (rowsFromSearch e w)))
 
@@ -64,7 +64,7 @@ module _ (e : Elements) (w : Window) (q room : ℕ) where
 
 -- 6 and 7, then 8 to 10
 module _ (e : Elements) (w : Window) (q room : ℕ) where
-  window-parts : first (rowsFromWindow e w q room) ≡ ((windowRow w then stepRow w) then first (rowsFromQuestion e w q room))
+  pub window-parts : first (rowsFromWindow e w q room) ≡ ((windowRow w then stepRow w) then first (rowsFromQuestion e w q room))
   unfolding first
   window-parts = sym (then-assoc (windowRow w) (stepRow w) (first (rowsFromQuestion e w q room)))
 

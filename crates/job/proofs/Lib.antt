@@ -2,6 +2,7 @@
 pub mod Laws
 pub mod Cases
 pub mod Parts
+pub mod Roomy
 pub mod Exactly
 pub mod Only
 pub mod Written

@@ -12,8 +12,9 @@ use lib.ListN.{length, getD, set, take, drop, length-append, length-drop, length
 use lib.Seq.{sets, sets-eq, length-sets, length-take-le, take-all, take-suc, drop-length, drop-drop, getD-drop, getD-append-add}
 use Rattle.job.specs.Reply.{replyOf}
 use Rattle.job.proofs.Parts.{reply-fits}
+use Rattle.job.proofs.Roomy.{reply-roomy}
 use Rattle.interval.proofs.Laws.{sets-append}
-use Rattle.lists.specs.Replies.{pieceOf, repliesOf, Roomy}
+use Rattle.lists.specs.Replies.{pieceOf, answerOf, repliesOf, Room}
 
 -- ---- a piece
 
@@ -44,78 +45,80 @@ rest-sets xs l ys used h e =
 
 -- ---- one answer
 
+-- it fits where there is room for any
+pub answer-fits : (s : List ℕ) → length (answerOf s) ≤ 49200
+answer-fits s = reply-fits s 49200
+
 -- piece n of s was answered in the rest of `out`: `new` stands there, of which r bytes are the answer's
-module _ (s out : List ℕ) (n end used r : ℕ) (new : List ℕ) (h : used ≤ length out) (e : end ≡ min (136 * n + 136) (length s))
+module _ (s out : List ℕ) (n end used r : ℕ) (new : List ℕ) (h : Room used out) (e : end ≡ min (136 * n + 136) (length s))
     (told : r ≡ length (replyOf (take (end - 136 * n) (drop (136 * n) s)) (length (take (length out - used) (drop used out)))))
     (left : new ≡ sets (take (length out - used) (drop used out)) 0 (replyOf (take (end - 136 * n) (drop (136 * n) s)) (length (take (length out - used) (drop used out))))) where
-  reply : List ℕ
-  reply = replyOf (pieceOf n s) (length out - used)
-
-  room : length (take (length out - used) (drop used out)) ≡ length out - used
+  room : 49200 ≤ length (take (length out - used) (drop used out))
   room = simp (length-take, length-drop) (omega arith)
 
-  length-is : r ≡ length reply
-  unfolding reply
-  length-is = told ∙ rw (piece-is n s end e, room)
+  answer-is : replyOf (take (end - 136 * n) (drop (136 * n) s)) (length (take (length out - used) (drop used out))) ≡ answerOf (pieceOf n s)
+  answer-is = rw (piece-is n s end e) (reply-roomy (pieceOf n s) (length (take (length out - used) (drop used out))) room)
 
-  pub answer-fits : used + r ≤ length out
-  unfolding reply
-  answer-fits = omega (arith, length-is, reply-fits (pieceOf n s) (length out - used))
+  length-is : r ≡ length (answerOf (pieceOf n s))
+  length-is = told ∙ ap length answer-is
 
-  pub answer-stands : (used + r ≡ used + length (replyOf (pieceOf n s) (length out - used))) × (take used out ++ (new ++ drop (length out - used) (drop used out)) ≡ sets out used (replyOf (pieceOf n s) (length out - used)))
-  unfolding reply
-  answer-stands =
-      (ap (λ (k : ℕ). used + k) length-is, rest-sets reply out new used (omega (arith, length-is, answer-fits)) (left ∙ rw (piece-is n s end e, room)))
+  pub answer-ends : used + r ≤ length out
+  answer-ends = omega (arith, length-is, answer-fits (pieceOf n s))
+
+  pub answer-stands : (used + r ≡ used + length (answerOf (pieceOf n s))) × (take used out ++ (new ++ drop (length out - used) (drop used out)) ≡ sets out used (answerOf (pieceOf n s)))
+  answer-stands = (
+    ap (λ (k : ℕ). used + k) length-is,
+    rest-sets (answerOf (pieceOf n s)) out new used (omega (arith, answer-fits (pieceOf n s))) (left ∙ ap (λ (xs : List ℕ). sets (take (length out - used) (drop used out)) 0 xs) answer-is),
+  )
 
 -- ---- the answers one behind the other
 
--- they fit
-pub replies-fit : (n : ℕ) (s : List ℕ) (room : ℕ) → length (repliesOf n s room) ≤ room
-unfolding repliesOf
-replies-fit zero s room = omega arith
-replies-fit (suc n) s room = simp length-append (omega (arith, replies-fit n s room, reply-fits (pieceOf n s) (room - length (repliesOf n s room))))
-
 -- the answers to n pieces stand in `out`, which was `old`, in its first `used` bytes
 pub record Stand (n : ℕ) (s old out : List ℕ) (used : ℕ) : Type 0 where
-  pub counted : used ≡ length (repliesOf n s (length old))
-  pub stored : out ≡ sets old 0 (repliesOf n s (length old))
+  pub counted : used ≡ length (repliesOf n s)
+  pub stored : out ≡ sets old 0 (repliesOf n s)
+  pub inside : used ≤ length old
 
-nothing : (s : List ℕ) (room : ℕ) → length (repliesOf 0 s room) ≡ 0
+nothing : (s : List ℕ) → length (repliesOf 0 s) ≡ 0
 unfolding repliesOf
-nothing s room = refl
+nothing s = refl
 
 -- no piece yet
 pub stand-none : (s old : List ℕ) → Stand 0 s old old 0
 unfolding repliesOf
-stand-none s old = record { counted = refl; stored = refl }
+stand-none s old = record { counted = refl; stored = refl; inside = omega arith }
 
 module _ {n : ℕ} {s old out : List ℕ} {used : ℕ} (stand : Stand n s old out used) where
   -- they leave the buffer as long as it was
   pub stand-long : length out ≡ length old
-  stand-long = ap length (stand .stored) ∙ length-sets old 0 (repliesOf n s (length old))
+  stand-long = ap length (stand .stored) ∙ length-sets old 0 (repliesOf n s)
 
-  -- and are in it
   pub stand-fit : used ≤ length out
-  stand-fit = omega (arith, stand .counted, stand-long, replies-fit n s (length old))
+  stand-fit = omega (arith, stand .inside, stand-long)
 
-  -- without room there is one
-  pub stand-some : Roomy old → length out - used < 49200 → 0 < n
-  stand-some roomy full = by n refl
+  -- the loop's test
+  pub stand-room : leb 49200 (length out - used) ≡ true → Room used out
+  stand-room h = omega (arith, leb-true 49200 (length out - used) h, stand-fit)
+
+  -- without room for one more there is one
+  pub stand-some : Room 0 old → length out - used < 49200 → 0 < n
+  stand-some room full = by n refl
     where
       by : (k : ℕ) → n ≡ k → 0 < k
-      by zero e = absurd (omega (arith, stand-long, ap (λ (k : ℕ). length (repliesOf k s (length old))) e, nothing s (length old)))
+      by zero e = absurd (omega (arith, stand .counted, stand-long, ap (λ (k : ℕ). length (repliesOf k s)) e, nothing s))
       by (suc k) e = omega arith
 
   -- one more
-  pub stand-more : {out′ : List ℕ} {used′ : ℕ} → used′ ≡ used + length (replyOf (pieceOf n s) (length out - used)) → out′ ≡ sets out used (replyOf (pieceOf n s) (length out - used)) → Stand (n + 1) s old out′ used′
+  pub stand-more : {out′ : List ℕ} {used′ : ℕ} → Room used out → used′ ≡ used + length (answerOf (pieceOf n s)) → out′ ≡ sets out used (answerOf (pieceOf n s)) → Stand (n + 1) s old out′ used′
   unfolding repliesOf
-  stand-more u o =
-      let before = repliesOf n s (length old) in
-      let reply = replyOf (pieceOf n s) (length old - length before) in
+  stand-more room u o =
+      let before = repliesOf n s in
+      let last = answerOf (pieceOf n s) in
       rw add-one
       (record {
-        counted = u ∙ rw (stand-long, stand .counted) (sym (length-append before reply));
-        stored = o ∙ rw (stand-long, stand .counted, stand .stored) (sym (rw zero-add at (sets-append before reply old 0)));
+        counted = u ∙ rw (stand .counted) (sym (length-append before last));
+        stored = o ∙ rw (stand .counted, stand .stored) (sym (rw zero-add at (sets-append before last old 0)));
+        inside = omega (arith, u, stand-long, answer-fits (pieceOf n s));
       })
 
 -- ---- bytes that are moved to the start

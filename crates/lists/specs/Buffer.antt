@@ -4,8 +4,8 @@ use mathlib.Core.List.{List}
 use lib.ListN.{length}
 
 -- the bytes from `from` up to `to` are some of the buffer's
-abbrev pub Span : ℕ → ℕ → List ℕ → Type 0
-Span from to buf = (from ≤ to) × (to ≤ length buf)
+abbrev pub Inside : ℕ → ℕ → List ℕ → Type 0
+Inside from to buf = (from ≤ to) × (to ≤ length buf)
 
 -- the first `kept` bytes are those of a record that has not come whole, and the buffer has room for the others
 abbrev pub Tail : ℕ → List ℕ → Type 0

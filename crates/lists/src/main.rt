@@ -1,13 +1,12 @@
 // The program: orbit records on standard input, and for each its intervals and a closing record on standard output (document 01, "One job whole").
 // No contract can say what is read or written. What the contracts say is what stands in the buffers between the two.
-ghost use Prim.Native.Nat.{_+_, _-_, _≤_, min};
+ghost use Prim.Native.Nat.{_+_, _-_, min};
 ghost use mathlib.Core.Path.{_≡_};
 ghost use lib.ListN.{length, take, drop};
 ghost use lib.Seq.{sets};
 ghost use Rattle.io.specs.Counts.{Counts};
-ghost use Rattle.job.specs.Reply.{replyOf};
-ghost use Rattle.lists.specs.Replies.{pieceOf, repliesOf, Begins, Pieces, Roomy};
-ghost use Rattle.lists.specs.Buffer.{Span, Tail};
+ghost use Rattle.lists.specs.Replies.{pieceOf, answerOf, repliesOf, Begins, Pieces, Room};
+ghost use Rattle.lists.specs.Buffer.{Inside, Tail};
 use libc::STDIN_FILENO;
 use libc::STDOUT_FILENO;
 
@@ -31,9 +30,9 @@ fn least(a: usize, b: usize) -> usize
 
 // The answer to piece n of `src`, behind the `used` bytes of `out`; how many are in use then.
 fn answered(src: &[u8], n: usize, out: &mut [u8], used: usize) -> usize
-    requires { ⌜ (Begins n (now src)) × (used ≤ length (now out)) ⌝ }
-    ensures { λ r. ⌜ r ≡ used + length (replyOf (pieceOf n (now (src .entry))) (length (now (out .entry)) - used)) ⌝ }
-    ensures { λ _. ⌜ now (out .exit) ≡ sets (now (out .entry)) used (replyOf (pieceOf n (now (src .entry))) (length (now (out .entry)) - used)) ⌝ }
+    requires { ⌜ (Begins n (now src)) × (Room used (now out)) ⌝ }
+    ensures { λ r. ⌜ r ≡ used + length (answerOf (pieceOf n (now (src .entry)))) ⌝ }
+    ensures { λ _. ⌜ now (out .exit) ≡ sets (now (out .entry)) used (answerOf (pieceOf n (now (src .entry)))) ⌝ }
 {
     let at = RECORD * n;
     let end = least(at + RECORD, src.len());
@@ -42,10 +41,10 @@ fn answered(src: &[u8], n: usize, out: &mut [u8], used: usize) -> usize
 
 // The answers to the first pieces of `src`, one behind the other from byte 0 of `out`, while there is room for any answer.
 fn replies(src: &[u8], out: &mut [u8]) -> Batch
-    requires { ⌜ (Begins 0 (now src)) × (Roomy (now out)) ⌝ }
+    requires { ⌜ (Begins 0 (now src)) × (Room 0 (now out)) ⌝ }
     ensures { λ r. ⌜ (Pieces (r .pieces) (now (src .entry))) × (Counts (r .used) (now (out .exit))) ⌝ }
-    ensures { λ r. ⌜ r .used ≡ length (repliesOf (r .pieces) (now (src .entry)) (length (now (out .entry)))) ⌝ }
-    ensures { λ r. ⌜ now (out .exit) ≡ sets (now (out .entry)) 0 (repliesOf (r .pieces) (now (src .entry)) (length (now (out .entry)))) ⌝ }
+    ensures { λ r. ⌜ r .used ≡ length (repliesOf (r .pieces) (now (src .entry))) ⌝ }
+    ensures { λ r. ⌜ now (out .exit) ≡ sets (now (out .entry)) 0 (repliesOf (r .pieces) (now (src .entry))) ⌝ }
 {
     let mut n = 0;
     let mut used = 0;
@@ -67,7 +66,7 @@ fn written(bytes: &[u8]) -> bool {
 
 // Answers every piece of `src`, by way of `out`; false where a write failed.
 fn answer(src: &[u8], out: &mut [u8]) -> bool
-    requires { ⌜ Roomy (now out) ⌝ }
+    requires { ⌜ Room 0 (now out) ⌝ }
 {
     let mut at = 0;
     while at < src.len() {
@@ -83,7 +82,7 @@ fn answer(src: &[u8], out: &mut [u8]) -> bool
 
 // Moves the bytes of `buf` from `from` up to `to` to its start.
 fn move_down(buf: &mut [u8], from: usize, to: usize)
-    requires { ⌜ Span from to (now buf) ⌝ }
+    requires { ⌜ Inside from to (now buf) ⌝ }
     ensures { λ _. ⌜ now (buf .exit) ≡ sets (now (buf .entry)) 0 (take (to - from) (drop from (now (buf .entry)))) ⌝ }
 {
     let mut i = 0;
@@ -95,7 +94,7 @@ fn move_down(buf: &mut [u8], from: usize, to: usize)
 
 // One read behind the `kept` bytes of a record that has not come whole, and the answers to those that have; whether to go on.
 fn turn(buf: &mut [u8], kept: &mut usize, out: &mut [u8]) -> bool
-    requires { ⌜ (Tail (now kept) (now buf)) × (Roomy (now out)) ⌝ }
+    requires { ⌜ (Tail (now kept) (now buf)) × (Room 0 (now out)) ⌝ }
     ensures { λ _. ⌜ Tail (now (kept .exit)) (now (buf .exit)) ⌝ }
 {
     let from = *kept;
@@ -120,7 +119,7 @@ fn turn(buf: &mut [u8], kept: &mut usize, out: &mut [u8]) -> bool
 
 // A proved loop has to end, so it counts its turns down, from a number that no run uses up.
 fn run(buf: &mut [u8], out: &mut [u8])
-    requires { ⌜ (Tail 0 (now buf)) × (Roomy (now out)) ⌝ }
+    requires { ⌜ (Tail 0 (now buf)) × (Room 0 (now out)) ⌝ }
 {
     let mut turns = u64::MAX;
     let mut kept = 0;

@@ -1,5 +1,5 @@
 -- `lists::answer` meets its contract, which asks that each batch has room. The measure is the bytes that are left; a batch answers one piece at least.
-use Prim.Native.Nat.{_≤_, _-_}
+use Prim.Native.Nat.{_-_}
 use mathlib.Core.Path.{_≡_}
 use native.Mathlib.Omega.{arith}
 use borrow.Author.Needs.{needs}

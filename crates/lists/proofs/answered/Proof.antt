@@ -1,5 +1,5 @@
 -- `lists::answered` meets its contract: the piece is lent up to its end, and its answer is stored in the rest of `out`.
-use Rattle.lists.proofs.Laws.{answer-fits, answer-stands}
+use Rattle.lists.proofs.Laws.{answer-ends, answer-stands}
 use native.Mathlib.Omega.{arith}
 use borrow.Author.Needs.{needs}
 use Rattle.lists.proofs.answered.Statement.{statement}
@@ -39,7 +39,7 @@ add-result : tie.Need-add-result
 add-result c =
     let t = c .before .before in
     let a = t .before .before .before .before .before .before .args in
-    let h = answer-fits (a .src .now) (a .out .now) (a .n) _ (a .used) (t .reply .result) _ (search needs) (t .before .before .before .least .ensures) (t .reply .ensures .0) (t .reply .ensures .1) in
+    let h = answer-ends (a .src .now) (a .out .now) (a .n) _ (a .used) (t .reply .result) _ (search needs) (t .before .before .before .least .ensures) (t .reply .ensures .0) (t .reply .ensures .1) in
     omega arith
 
 same-length : tie.Need-same-length

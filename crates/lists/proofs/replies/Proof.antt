@@ -4,7 +4,7 @@ use native.Mathlib.Omega.{arith}
 use borrow.Author.Needs.{needs}
 use lib.ListN.{length}
 use Rattle.io.proofs.Counting.{counts}
-use Rattle.lists.proofs.Laws.{Stand, stand-none, stand-long, stand-fit, stand-some, stand-more}
+use Rattle.lists.proofs.Laws.{Stand, stand-none, stand-long, stand-fit, stand-room, stand-some, stand-more}
 use Rattle.lists.proofs.replies.Statement.{statement}
 use Rattle.lists.proofs.replies.Tie as tie
 
@@ -24,7 +24,7 @@ sub-if1 : tie.Need-sub-if1 Inv-loop μ-loop
 sub-if1 c = stand-fit (c .before .loop .inv .0)
 
 answered-requires : tie.Need-answered-requires Inv-loop μ-loop
-answered-requires c κs = (search needs, stand-fit (c .before .before .before .loop .inv .0))
+answered-requires c κs = (search needs, stand-room (c .before .before .before .loop .inv .0) (c .before .if1 .taken))
 
 add-n : tie.Need-add-n Inv-loop μ-loop
 add-n c = search needs
@@ -35,7 +35,8 @@ loop-less c = search needs
 loop-again : tie.Need-loop-again Inv-loop μ-loop
 loop-again c =
     let t = c .before .before in
-    (stand-more (t .before .before .before .before .loop .inv .0) (t .answered .ensures .0) (t .answered .ensures .1), search needs)
+    let stand = t .before .before .before .before .loop .inv .0 in
+    (stand-more stand (stand-room stand (t .before .before .if1 .taken)) (t .answered .ensures .0) (t .answered .ensures .1), search needs)
 
 same-length : tie.Need-same-length Inv-loop μ-loop
 same-length c = stand-long (c .before .before .loop .inv .0)

@@ -1,0 +1,65 @@
+-- Room for 2,049 intervals is enough for any job: then row 9 never applies, and what is answered does not depend on the room.
+use Prim.Native.Nat.{ℕ, _+_, _-_, _≤_}
+use mathlib.Core.Path.{_≡_, refl, sym, ap, _∙_}
+use mathlib.Core.Bool.{Bool}
+use mathlib.Core.List.{List}
+use native.Mathlib.Omega.{arith}
+use borrow.Author.Tests.{le-ltb, le-leb}
+use Rattle.refusal.specs.Rows.{when, _then_, first}
+use Rattle.refusal.specs.declared.Refusal.the-variants as refusal
+use Rattle.refusal.specs.declared.Verdict.{Verdict}
+use Rattle.refusal.specs.declared.Verdict.the-variants as verdict
+use Rattle.elements.specs.declared.reading.Elements.{Elements}
+use Rattle.elements.specs.Reading.{elementsOf, recordRows}
+use Rattle.finder.specs.declared.Window.{Window}
+use Rattle.finder.specs.Samples.{stepsOf}
+use Rattle.finder.specs.Records.{roomOf}
+use Rattle.job.specs.Table.{windowOf, questionOf, noRoom, windowRow, stepRow, questionRow, roomRow, rowsFromSearch, rowsFromQuestion, rowsFromWindow, tableOf}
+use Rattle.job.specs.Outcome.{answersIn, outcomeFrom, recordsFrom, outcomeOf, recordsIn}
+use Rattle.job.specs.Reply.{jobOf, closingOf, replyOf}
+use Rattle.job.proofs.Laws.{both, few-steps}
+use Rattle.job.proofs.Cases.{question-parts, window-parts, table-parts}
+
+-- a window of at most 4,096 steps has room
+row-passes : (w : Window) (room : ℕ) → stepsOf w ≤ 4096 → 49176 ≤ room → roomRow w room ≡ verdict.Passed
+unfolding noRoom roomOf
+row-passes w room few enough = ap (λ (t : Bool). when t refusal.Room) (le-ltb room (roomOf w) (omega arith))
+
+module _ (e : Elements) (w : Window) (q a b : ℕ) (p : 49176 ≤ a) (r : 49176 ≤ b) where
+  same-question : stepsOf w ≤ 4096 → first (rowsFromQuestion e w q a) ≡ first (rowsFromQuestion e w q b)
+  same-question few =
+      question-parts e w q a
+      ∙ ap (λ (v : Verdict). (questionRow q then v) then first (rowsFromSearch e w)) (row-passes w a few p ∙ sym (row-passes w b few r))
+      ∙ sym (question-parts e w q b)
+
+  -- more steps than 4,096 are refused before
+  same-window : first (rowsFromWindow e w q a) ≡ first (rowsFromWindow e w q b)
+  unfolding _then_
+  same-window = window-parts e w q a ∙ by (windowRow w then stepRow w) refl ∙ sym (window-parts e w q b)
+    where
+      by : (v : Verdict) → (windowRow w then stepRow w) ≡ v → (v then first (rowsFromQuestion e w q a)) ≡ (v then first (rowsFromQuestion e w q b))
+      by verdict.Passed h = let two = both (windowRow w) (stepRow w) h in same-question (few-steps w (two .0) (two .1))
+      by (verdict.Refused x) h = refl
+
+module _ (s : List ℕ) (a b : ℕ) (p : 49176 ≤ a) (r : 49176 ≤ b) where
+  same-verdict : first (tableOf s a) ≡ first (tableOf s b)
+  same-verdict =
+      table-parts s a
+      ∙ ap (λ (v : Verdict). first (recordRows s) then v) (same-window (elementsOf s) (windowOf s) (questionOf s) a b p r)
+      ∙ sym (table-parts s b)
+
+  same-outcome : outcomeOf s a ≡ outcomeOf s b
+  unfolding outcomeOf
+  same-outcome = ap (λ (v : Verdict). outcomeFrom v (answersIn s) (windowOf s)) same-verdict
+
+  same-records : recordsIn s a ≡ recordsIn s b
+  unfolding recordsIn
+  same-records = ap (λ (v : Verdict). recordsFrom v (answersIn s) (windowOf s)) same-verdict
+
+-- with 24 bytes more for the closing record
+pub reply-roomy : (s : List ℕ) (room : ℕ) → 49200 ≤ room → replyOf s room ≡ replyOf s 49200
+unfolding replyOf
+reply-roomy s room h =
+    let lent : 49176 ≤ room - 24 = omega arith in
+    let least : 49176 ≤ 49200 - 24 = omega arith in
+    rw (le-leb 24 room (omega arith), same-records s (room - 24) (49200 - 24) lent least, same-outcome s (room - 24) (49200 - 24) lent least)

@@ -1,8 +1,8 @@
--- The table's rows: each gives only refusals of its own order, which hand back what the table says, and passes only what is accepted.
-use Prim.Native.Nat.{ℕ, _+_, _≤_, _<_}
+-- The table's rows: each gives only refusals of its own order, which hand back what the table says, and passes only what is accepted; row 1 + k is field k's.
+use Prim.Native.Nat.{ℕ, zero, suc, _+_, _≤_, _<_}
 use mathlib.Core.Path.{_≡_, refl, sym, ap, subst, _∙_}
 use mathlib.Core.Bool.{Bool, true, false, not, cond}
-use mathlib.Core.List.{List}
+use mathlib.Core.List.{List, [], _∷_}
 use native.Mathlib.Omega.{arith}
 use borrow.Author.Tests.{eqb-true, not-false}
 use lib.Dec.{T, eqb, lit≤, lit<}
@@ -16,12 +16,13 @@ use Rattle.refusal.specs.Refusal.{orderOf, fieldOf}
 use Rattle.refusal.specs.Rows.{when, rowAt, Passes}
 use Rattle.refusal.specs.declared.Refusal.{Refusal}
 use Rattle.refusal.specs.declared.Refusal.the-variants.{Length, Word, NotFinite, OutOfRange, TooClose, Window, Step, Question, Room, Kepler}
+use Rattle.refusal.specs.declared.Verdict.{Verdict}
 use Rattle.refusal.specs.declared.Verdict.the-variants as verdict
-use Rattle.refusal.proofs.Order.{not-both, when-refused, when-passed, when-order, Each, Ordered, each-weaker}
+use Rattle.refusal.proofs.Order.{not-both, when-refused, when-passed, when-order, row-append, Each, Ordered, each-weaker}
 use Rattle.refusal.proofs.Order.Each.{done, _also_}
 use Rattle.elements.specs.Field.{fieldAt, HasField, bitsIn, floatOf, judge}
 use Rattle.elements.specs.Closest.{closestOf}
-use Rattle.elements.specs.Reading.{WholeRecord, elementsOf, fieldRows, recordRows, Returns}
+use Rattle.elements.specs.Reading.{WholeRecord, elementsOf, fieldRows, closeRow, recordRows, Returns}
 use Rattle.elements.specs.Accepted.{Accepted}
 
 -- ---- a row's refusals: their order, and what they hand back
@@ -121,6 +122,55 @@ passed-accepted s p =
       elevation-in = field-in s 13 _ (p 14);
       clear = subst T (sym (not-false (lt (e .radius) d) (when-passed (not (lt (e .radius) d)) (TooClose d) (p 15)))) tt;
     }
+
+-- ---- each field has its own row
+
+infixr 10 _next_
+-- the rows of a table are those of the fields from n on
+data Fields (s : List ℕ) : ℕ → List Verdict → Type 0 where
+  none : {n : ℕ} → Fields s n []
+  _next_ : {n : ℕ} {v : Verdict} {vs : List Verdict} → (accepted : Bool) × (v ≡ judge s n (floatOf s n) accepted) → Fields s (suc n) vs → Fields s n (v ∷ vs)
+
+thirteen : (s : List ℕ) → Fields s 1 (fieldRows s (elementsOf s))
+unfolding fieldRows elementsOf
+thirteen s =
+    (_, refl)
+    next (_, refl)
+    next (_, refl)
+    next (_, refl)
+    next (_, refl)
+    next (_, refl)
+    next (_, refl)
+    next (_, refl)
+    next (_, refl)
+    next (_, refl)
+    next (_, refl)
+    next (_, refl)
+    next (_, refl)
+    next none
+
+fields-at : (s : List ℕ) (n : ℕ) (vs : List Verdict) → Fields s n vs → (k : ℕ) → k < length vs → (accepted : Bool) × (rowAt vs k ≡ judge s (n + k) (floatOf s (n + k)) accepted)
+unfolding rowAt
+fields-at s n [] none k h = absurd (omega arith)
+fields-at s n (v ∷ vs) (own next rest) zero h = let same : n ≡ n + 0 = omega arith in subst (λ (m : ℕ). (accepted : Bool) × (v ≡ judge s m (floatOf s m) accepted)) same own
+fields-at s n (v ∷ vs) (own next rest) (suc k) h =
+    let same : suc n + k ≡ n + suc k = omega arith in
+    subst (λ (m : ℕ). (accepted : Bool) × (rowAt vs k ≡ judge s m (floatOf s m) accepted)) same (fields-at s (suc n) vs rest k (omega arith))
+
+-- row 1 + k is field k's, for k from 1 to 13
+pub field-row : (s : List ℕ) (k : ℕ) → 1 ≤ k → k ≤ 13 → (accepted : Bool) × (rowAt (recordRows s) (1 + k) ≡ judge s k (floatOf s k) accepted)
+unfolding fieldRows rowAt
+field-row s zero p q = absurd (omega arith)
+field-row s (suc k) p q =
+    let own = fields-at s 1 (fieldRows s (elementsOf s)) (thirteen s) k (omega arith) in
+    let same : 1 + k ≡ suc k = omega arith in
+    let here : 1 + suc k ≡ suc (suc k) = omega arith in (
+      own .0,
+      ap (rowAt (recordRows s)) here
+          ∙ row-append (fieldRows s (elementsOf s)) (closeRow (elementsOf s) ∷ []) k (omega arith)
+          ∙ own .1
+          ∙ ap (λ (n : ℕ). judge s n (floatOf s n) (own .0)) same,
+    )
 
 -- a refusal that names a field is not the first row's
 pub named-later : (r : Refusal) → 0 < fieldOf r → 0 < orderOf r

@@ -1,8 +1,8 @@
 -- Each refusal is given exactly if its row applies and none before does, a list exactly if every row passes, and what follows from each.
-use Prim.Native.Nat.{ℕ, _≤_, _<_}
+use Prim.Native.Nat.{ℕ, _+_, _≤_, _<_}
 use mathlib.Core.Path.{_≡_, refl, sym, ap, _∙_}
 use mathlib.Core.Logic.{_↔_, _⊎_, inl, inr}
-use mathlib.Core.Bool.{Bool, not}
+use mathlib.Core.Bool.{Bool, true, false, not}
 use mathlib.Core.List.{List}
 use native.Mathlib.Omega.{arith}
 use lib.Dec.{T}
@@ -10,20 +10,21 @@ use lib.ListN.{length}
 use lib.Seq.{sets}
 use lib.Ieee.{Float}
 use lib.Ieee.Positive.{positive}
+use lib.Ieee.Scale.{finite}
 use Rattle.words.specs.Little.{Bytes}
 use Rattle.refusal.specs.Refusal.{orderOf}
-use Rattle.refusal.specs.Rows.{_then_, first, rowAt, Gives, Passes}
+use Rattle.refusal.specs.Rows.{when, _then_, first, rowAt, Gives, Passes}
 use Rattle.refusal.specs.declared.Refusal.{Refusal}
 use Rattle.refusal.specs.declared.Refusal.the-variants as refusal
 use Rattle.refusal.specs.declared.Verdict.{Verdict}
 use Rattle.refusal.specs.declared.Verdict.the-variants as verdict
-use Rattle.refusal.proofs.Order.{not-both, passed-exactly, Each, Ordered, first-each, each-weaker, each-append, first-exactly}
+use Rattle.refusal.proofs.Order.{not-both, row-append, passed-exactly, Each, Ordered, first-each, each-weaker, each-append, first-exactly}
 use Rattle.refusal.proofs.Order.Each.{done, _also_}
-use Rattle.elements.specs.Field.{floatOf}
+use Rattle.elements.specs.Field.{bitsIn, floatOf, judge}
 use Rattle.elements.specs.Closest.{closestOf}
 use Rattle.elements.specs.Reading.{WholeRecord, elementsOf, fieldRows, recordRows, Returns}
 use Rattle.elements.specs.Accepted.{Accepted}
-use Rattle.elements.proofs.Rows.{Told, plain, told, ordered, passed-accepted, named-later, length-passed}
+use Rattle.elements.proofs.Rows.{Told, plain, told, ordered, passed-accepted, field-row, named-later, length-passed}
 use Rattle.elements.proofs.Exactly as reading
 use Rattle.geometry.specs.Placed.{settlesAt}
 use Rattle.finder.specs.declared.Window.{Window}
@@ -97,6 +98,31 @@ module _ (s : List ℕ) (room : ℕ) where
   refused-exactly r =
       let exactly = first-exactly (tableOf s room) in-order r in
       (λ h. exactly .0 (refused-first r h), λ g. first-refused r (exactly .1 g))
+
+  -- so field k is refused by its number, where each row before its own passes
+  module _ (k : ℕ) (least : 1 ≤ k) (most : k ≤ 13) (before : (j : ℕ) → j < 1 + k → rowAt (tableOf s room) j ≡ verdict.Passed) where
+    abbrev x : Float
+    x = floatOf s k
+
+    own : (accepted : Bool) × (rowAt (tableOf s room) (1 + k) ≡ judge s k x accepted)
+    unfolding tableOf fieldRows
+    own =
+        let row = field-row s k least most in
+        (row .0, row-append (recordRows s) (rowsFromWindow (elementsOf s) (windowOf s) (questionOf s) room) (1 + k) (omega arith) ∙ row .1)
+
+    -- with its bits, where it is NaN or infinite
+    pub not-finite-refused : finite x ≡ false → outcomeOf s room ≡ Refused (refusal.NotFinite k x (bitsIn s k))
+    unfolding judge
+    not-finite-refused h = refused-exactly (refusal.NotFinite k x (bitsIn s k)) .1 (record { applies = own .1 ∙ rw h; none-before = before })
+
+    -- with itself, where it is finite and its row does not pass
+    pub out-of-range-refused : finite x ≡ true → (rowAt (tableOf s room) (1 + k) ≡ verdict.Passed → ⊥) → outcomeOf s room ≡ Refused (refusal.OutOfRange k x)
+    unfolding judge
+    out-of-range-refused h out = refused-exactly (refusal.OutOfRange k x) .1 (record { applies = own .1 ∙ rw h (by (own .0) (λ e. out (own .1 ∙ rw (h, e)))); none-before = before })
+      where
+        by : (accepted : Bool) → (accepted ≡ true → ⊥) → when (not accepted) (refusal.OutOfRange k x) ≡ verdict.Refused (refusal.OutOfRange k x)
+        by true never = absurd (never refl)
+        by false never = refl
 
   -- hands back the field's own float and bits, where it names one
   pub refused-returns : (r : Refusal) → Bytes s → outcomeOf s room ≡ Refused r → Returns s r

@@ -3,7 +3,7 @@
 use Prim.Native.Nat.{ℕ, suc, _+_, _*_, _≤_, _<_}
 use mathlib.Core.Path.{_≡_, refl, sym, ap, _∙_}
 use mathlib.Core.Logic.{_↔_, _⊎_, inl, inr}
-use mathlib.Core.Bool.{Bool, not, _&&_}
+use mathlib.Core.Bool.{Bool, true, false, not, _&&_}
 use mathlib.Core.List.{List, _++_}
 use native.Mathlib.Omega.{arith}
 use contract.Lifetimes.{Lfts}
@@ -14,13 +14,15 @@ use lib.Dec.{T}
 use lib.ListN.{length, getD, take, drop}
 use lib.Ieee.{Float}
 use lib.Ieee.Positive.{positive}
+use lib.Ieee.Scale.{finite}
 use Rattle.words.specs.Little.{Bytes}
 use Rattle.halving.proofs.Alike.{Alike}
 use Rattle.refusal.specs.Refusal.{orderOf}
-use Rattle.refusal.specs.Rows.{Gives, Passes}
+use Rattle.refusal.specs.Rows.{rowAt, Gives, Passes}
 use Rattle.refusal.specs.declared.Refusal.{Refusal}
 use Rattle.refusal.specs.declared.Refusal.the-variants as refusal
-use Rattle.elements.specs.Field.{floatOf}
+use Rattle.refusal.specs.declared.Verdict.the-variants.{Passed}
+use Rattle.elements.specs.Field.{bitsIn, floatOf}
 use Rattle.elements.specs.Closest.{closestOf}
 use Rattle.elements.specs.Reading.{elementsOf, Returns}
 use Rattle.elements.specs.Accepted.{Accepted}
@@ -43,6 +45,7 @@ use Rattle.job.specs.Outcome.{intervalsOf, askedOf, answersIn, outcomeOf
 use Rattle.job.specs.declared.Outcome.{Outcome}
 use Rattle.job.specs.declared.Outcome.the-variants.{Listed, Refused}
 use Rattle.job.proofs.Exactly as exactly
+use Rattle.job.proofs.Roomy as roomy
 use Rattle.job.proofs.Written.{records-then-rest, record-is}
 use Rattle.job.proofs.list.Kinds as list
 use Rattle.job.proofs.list.Reads as list-reads
@@ -59,6 +62,7 @@ pub by-contract : (κs : Lfts 2) (a : Dens κs list.ps) (o : resT list.r κs .De
     → list-reads.Post κs a o x → Job (now (a .0)) (now (a .1 .0)) o (now (x .1 .0))
 by-contract κs a o x p = record { answer = p .0; bytes = p .1 }
 
+-- In what follows, of one job: the room in bytes, the window with its step, the yes or no at each instant, and the list of intervals.
 module _ (s old : List ℕ) (o : Outcome) (new : List ℕ) (job : Job s old o new) where
   abbrev room : ℕ
   room = length old
@@ -66,11 +70,9 @@ module _ (s old : List ℕ) (o : Outcome) (new : List ℕ) (job : Job s old o ne
   abbrev w : Window
   w = windowOf s
 
-  -- the yes or no at each instant
   abbrev f : ℕ → Bool
   f = answersIn s
 
-  -- the list
   abbrev l : List Span
   l = listOf f w
 
@@ -94,7 +96,21 @@ module _ (s old : List ℕ) (o : Outcome) (new : List ℕ) (job : Job s old o ne
   pub kepler-never : o ≡ Refused refusal.Kepler → ⊥
   kepler-never h = exactly.kepler-never s room (sym (job .answer) ∙ h)
 
-  -- NaN, infinity and values out of range are refused by field: what is listed has every field in its range
+  -- refusal 9 is never given where there is room for 2,049 intervals
+  pub room-never : 49176 ≤ room → o ≡ Refused refusal.Room → ⊥
+  room-never enough h = roomy.room-never s room enough (sym (job .answer) ∙ h)
+
+  -- NaN and infinity are refused by field: the first field k that is one, with its bits
+  pub not-finite-refused : (k : ℕ) → 1 ≤ k → k ≤ 13 → ((j : ℕ) → j < 1 + k → rowAt (tableOf s room) j ≡ Passed)
+      → finite (floatOf s k) ≡ false → o ≡ Refused (refusal.NotFinite k (floatOf s k) (bitsIn s k))
+  not-finite-refused k least most before h = job .answer ∙ exactly.not-finite-refused s room k least most before h
+
+  -- and so are values out of range: the first field k that is finite and does not pass, with itself
+  pub out-of-range-refused : (k : ℕ) → 1 ≤ k → k ≤ 13 → ((j : ℕ) → j < 1 + k → rowAt (tableOf s room) j ≡ Passed)
+      → finite (floatOf s k) ≡ true → (rowAt (tableOf s room) (1 + k) ≡ Passed → ⊥) → o ≡ Refused (refusal.OutOfRange k (floatOf s k))
+  out-of-range-refused k least most before h out = job .answer ∙ exactly.out-of-range-refused s room k least most before h out
+
+  -- none gets through: what is listed has every field in its range, and the closest distance above R
   pub listed-accepted : {n k : ℕ} → o ≡ Listed n k → Accepted (elementsOf s)
   listed-accepted h = exactly.listed-accepted s room (sym (job .answer) ∙ h)
 
@@ -102,7 +118,7 @@ module _ (s old : List ℕ) (o : Outcome) (new : List ℕ) (job : Job s old o ne
     given : outcomeOf s room ≡ Refused r
     given = sym (job .answer) ∙ h
 
-    -- a refusal that names a field returns that field's own number, bit for bit
+    -- a refusal that names a field returns that field's own number, bit for bit (that s are bytes is what a slice of u8 holds)
     pub refused-returns : Bytes s → Returns s r
     refused-returns b = exactly.refused-returns s room r b given
 

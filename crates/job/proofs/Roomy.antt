@@ -5,25 +5,37 @@ use mathlib.Core.Bool.{Bool}
 use mathlib.Core.List.{List}
 use native.Mathlib.Omega.{arith}
 use borrow.Author.Tests.{le-ltb, le-leb}
-use Rattle.refusal.specs.Rows.{when, _then_, first}
+use lib.Dec.{lit<}
+use Rattle.refusal.specs.Rows.{when, _then_, first, rowAt}
 use Rattle.refusal.specs.declared.Refusal.the-variants as refusal
 use Rattle.refusal.specs.declared.Verdict.{Verdict}
 use Rattle.refusal.specs.declared.Verdict.the-variants as verdict
 use Rattle.elements.specs.declared.reading.Elements.{Elements}
-use Rattle.elements.specs.Reading.{elementsOf, recordRows}
+use Rattle.refusal.proofs.Order.{not-both}
+use Rattle.elements.specs.Reading.{elementsOf, fieldRows, recordRows}
 use Rattle.finder.specs.declared.Window.{Window}
 use Rattle.finder.specs.Samples.{stepsOf}
 use Rattle.finder.specs.Records.{roomOf}
 use Rattle.job.specs.Table.{windowOf, questionOf, noRoom, windowRow, stepRow, questionRow, roomRow, rowsFromSearch, rowsFromQuestion, rowsFromWindow, tableOf}
 use Rattle.job.specs.Outcome.{answersIn, outcomeFrom, recordsFrom, outcomeOf, recordsIn}
 use Rattle.job.specs.Reply.{jobOf, closingOf, replyOf}
+use Rattle.job.specs.declared.Outcome.the-variants.{Refused}
 use Rattle.job.proofs.Laws.{both, few-steps}
+use Rattle.job.proofs.Exactly.{refused-exactly}
 use Rattle.job.proofs.Cases.{question-parts, window-parts, table-parts}
 
 -- a window of at most 4,096 steps has room
 row-passes : (w : Window) (room : ℕ) → stepsOf w ≤ 4096 → 49176 ≤ room → roomRow w room ≡ verdict.Passed
 unfolding noRoom roomOf
 row-passes w room few enough = ap (λ (t : Bool). when t refusal.Room) (le-ltb room (roomOf w) (omega arith))
+
+-- so with so much room no job is refused for it
+pub room-never : (s : List ℕ) (room : ℕ) → 49176 ≤ room → outcomeOf s room ≡ Refused refusal.Room → ⊥
+unfolding tableOf fieldRows rowAt
+room-never s room enough h =
+    let gives = refused-exactly s room refusal.Room .0 h in
+    let few = few-steps (windowOf s) (gives .none-before 16 (lit< tt)) (gives .none-before 17 (lit< tt)) in
+    not-both (row-passes (windowOf s) room few enough) (gives .applies)
 
 module _ (e : Elements) (w : Window) (q a b : ℕ) (p : 49176 ≤ a) (r : 49176 ≤ b) where
   same-question : stepsOf w ≤ 4096 → first (rowsFromQuestion e w q a) ≡ first (rowsFromQuestion e w q b)

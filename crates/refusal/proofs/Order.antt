@@ -34,6 +34,13 @@ unfolding first _then_
 first-append [] ys = refl
 first-append (x ∷ xs) ys = ap (λ (v : Verdict). x then v) (first-append xs ys) ∙ sym (then-assoc x (first xs) (first ys))
 
+-- a row of its first part
+pub row-append : (xs ys : List Verdict) (k : ℕ) → k < length xs → rowAt (xs ++ ys) k ≡ rowAt xs k
+unfolding rowAt
+row-append [] ys k h = absurd (omega arith)
+row-append (x ∷ xs) ys zero h = refl
+row-append (x ∷ xs) ys (suc k) h = row-append xs ys k (omega arith)
+
 -- of a table cut anywhere
 pub first-split : (k : ℕ) (vs : List Verdict) → first (take k vs) then first (drop k vs) ≡ first vs
 first-split k vs = sym (first-append (take k vs) (drop k vs)) ∙ ap first (take-append-drop k vs)

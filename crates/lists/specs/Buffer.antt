@@ -1,12 +1,18 @@
--- What the functions on the input's buffer require.
-use Prim.Native.Nat.{ℕ, _≤_, _<_}
+-- What stands in the input's buffer: whole records, and the first bytes of one that has not come whole.
+use Prim.Native.Nat.{ℕ, _-_, _%_, _≤_, _<_}
 use mathlib.Core.List.{List}
-use lib.ListN.{length}
+use lib.ListN.{length, take, drop}
 
--- the bytes from `from` up to `to` are some of the buffer's
-abbrev pub Inside : ℕ → ℕ → List ℕ → Type 0
-Inside from to buf = (from ≤ to) × (to ≤ length buf)
+-- those bytes: what is left of the first `filled` bytes behind the last whole record
+unfoldable pub tailOf : ℕ → List ℕ → List ℕ
+tailOf filled buf = take (filled % 136) (drop (filled - filled % 136) buf)
 
--- the first `kept` bytes are those of a record that has not come whole, and the buffer has room for the others
-abbrev pub Tail : ℕ → List ℕ → Type 0
-Tail kept buf = (kept < 136) × (136 ≤ length buf)
+-- ---- what the functions require and ensure
+
+-- the buffer has so many bytes
+abbrev pub Filled : ℕ → List ℕ → Type 0
+Filled filled buf = filled ≤ length buf
+
+-- fewer bytes than a record are kept, and the buffer has room for the others
+abbrev pub Kept : ℕ → List ℕ → Type 0
+Kept kept buf = (kept < 136) × (136 ≤ length buf)

@@ -1,12 +1,12 @@
 // The program: orbit records on standard input, and for each its intervals and a closing record on standard output (document 01, "One job whole").
 // No contract can say what is read or written. What the contracts say is what stands in the buffers between the two.
-ghost use Prim.Native.Nat.{_+_, _-_, min};
+ghost use Prim.Native.Nat.{_+_, _%_, min};
 ghost use mathlib.Core.Path.{_≡_};
-ghost use lib.ListN.{length, take, drop};
+ghost use lib.ListN.{length};
 ghost use lib.Seq.{sets};
 ghost use Rattle.io.specs.Counts.{Counts};
 ghost use Rattle.lists.specs.Replies.{pieceOf, answerOf, repliesOf, Begins, Pieces, Room};
-ghost use Rattle.lists.specs.Buffer.{Inside, Tail};
+ghost use Rattle.lists.specs.Buffer.{tailOf, Filled, Kept};
 use libc::STDIN_FILENO;
 use libc::STDOUT_FILENO;
 
@@ -80,22 +80,26 @@ fn answer(src: &[u8], out: &mut [u8]) -> bool
     true
 }
 
-// Moves the bytes of `buf` from `from` up to `to` to its start.
-fn move_down(buf: &mut [u8], from: usize, to: usize)
-    requires { ⌜ Inside from to (now buf) ⌝ }
-    ensures { λ _. ⌜ now (buf .exit) ≡ sets (now (buf .entry)) 0 (take (to - from) (drop from (now (buf .entry)))) ⌝ }
+// Moves the last of the first `filled` bytes of `buf`, those of a record that has not come whole, to its start; how many they are.
+fn keep(buf: &mut [u8], filled: usize) -> usize
+    requires { ⌜ Filled filled (now buf) ⌝ }
+    ensures { λ r. ⌜ r ≡ filled % 136 ⌝ }
+    ensures { λ _. ⌜ now (buf .exit) ≡ sets (now (buf .entry)) 0 (tailOf filled (now (buf .entry))) ⌝ }
 {
+    let tail = filled % RECORD;
+    let from = filled - tail;
     let mut i = 0;
-    while i < to - from {
+    while i < tail {
         buf[i] = buf[from + i];
         i += 1;
     }
+    tail
 }
 
 // One read behind the `kept` bytes of a record that has not come whole, and the answers to those that have; whether to go on.
 fn turn(buf: &mut [u8], kept: &mut usize, out: &mut [u8]) -> bool
-    requires { ⌜ (Tail (now kept) (now buf)) × (Room 0 (now out)) ⌝ }
-    ensures { λ _. ⌜ Tail (now (kept .exit)) (now (buf .exit)) ⌝ }
+    requires { ⌜ (Kept (now kept) (now buf)) × (Room 0 (now out)) ⌝ }
+    ensures { λ _. ⌜ Kept (now (kept .exit)) (now (buf .exit)) ⌝ }
 {
     let from = *kept;
     let got = libc::read(STDIN_FILENO, &mut buf[from..]);
@@ -112,14 +116,13 @@ fn turn(buf: &mut [u8], kept: &mut usize, out: &mut [u8]) -> bool
     if !answer(&buf[..whole], out) {
         return false;
     }
-    move_down(buf, whole, filled);
-    *kept = filled - whole;
+    *kept = keep(buf, filled);
     true
 }
 
 // A proved loop has to end, so it counts its turns down, from a number that no run uses up.
 fn run(buf: &mut [u8], out: &mut [u8])
-    requires { ⌜ (Tail 0 (now buf)) × (Room 0 (now out)) ⌝ }
+    requires { ⌜ (Kept 0 (now buf)) × (Room 0 (now out)) ⌝ }
 {
     let mut turns = u64::MAX;
     let mut kept = 0;

@@ -82,11 +82,8 @@ same-length-5 c = search needs
 returns-3 : tie.Need-returns-3
 returns-3 c = search needs
 
-move-down-requires : tie.Need-move-down-requires
-move-down-requires c κs = search needs
-
-sub-kept : tie.Need-sub-kept
-sub-kept c = search needs
+keep-requires : tie.Need-keep-requires
+keep-requires c κs = search needs
 
 same-length-6 : tie.Need-same-length-6
 same-length-6 c = search needs
@@ -127,8 +124,7 @@ turn-spec =
     same-length-4
     same-length-5
     returns-3
-    move-down-requires
-    sub-kept
+    keep-requires
     same-length-6
     same-length-7
     returns-4)

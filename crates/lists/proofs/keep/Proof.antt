@@ -1,23 +1,24 @@
--- `lists::move_down` meets its contract. Whenever the loop's test is reached, the first i bytes have been moved; the measure is how many have not.
-use Prim.Native.Nat.{_≤_, _-_}
-use mathlib.Core.Path.{_≡_}
+-- `lists::keep` meets its contract. Whenever the loop's test is reached, the first i bytes have been moved; the measure is how many have not.
+use Prim.Native.Nat.{_≤_, _%_, _-_}
+use mathlib.Core.Path.{_≡_, refl}
 use native.Mathlib.Omega.{arith}
 use borrow.Author.Needs.{needs}
+use Rattle.lists.specs.Buffer.{tailOf}
 use Rattle.lists.proofs.Laws.{Moved, moved-none, moved-long, moved-more}
-use Rattle.lists.proofs.move_down.Statement.{statement}
-use Rattle.lists.proofs.move_down.Tie as tie
+use Rattle.lists.proofs.keep.Statement.{statement}
+use Rattle.lists.proofs.keep.Tie as tie
 
 abbrev Inv-loop : tie.InvT-loop
-Inv-loop buf₀ from to i₀ buf i = (Moved from i buf₀ buf) × (i ≤ to - from)
+Inv-loop buf₀ filled tail from i₀ buf i = (Moved from i buf₀ buf) × (i ≤ tail)
 
 abbrev μ-loop : tie.MeasureT-loop
-μ-loop buf₀ from to i₀ buf i = to - from - i
+μ-loop buf₀ filled tail from i₀ buf i = tail - i
+
+sub-from : tie.Need-sub-from Inv-loop μ-loop
+sub-from c = search needs
 
 loop-holds : tie.Need-loop-holds Inv-loop μ-loop
 loop-holds c = (moved-none _ _, search needs)
-
-sub-loop : tie.Need-sub-loop Inv-loop μ-loop
-sub-loop c = search needs
 
 add-buf : tie.Need-add-buf Inv-loop μ-loop
 add-buf c = search needs
@@ -41,19 +42,19 @@ same-length : tie.Need-same-length Inv-loop μ-loop
 same-length c = moved-long (c .before .loop .inv .0)
 
 returns : tie.Need-returns Inv-loop μ-loop
+unfolding tailOf
 returns c =
-    let i = c .before .loop .inv in
-    let all : c .before .loop .i ≡ c .before .before .args .to - c .before .before .args .from = omega arith in
-    rw (← all) (i .0 .moved)
+    let all : c .before .loop .i ≡ c .before .before .args .filled % 136 = omega arith in
+    (refl, rw all at (c .before .loop .inv .0 .moved))
 
-pub move-down-spec : {M : Type 1} → statement M
-move-down-spec =
+pub keep-spec : {M : Type 1} → statement M
+keep-spec =
     tie.close
     (tie.spec
     Inv-loop
     μ-loop
+    sub-from
     loop-holds
-    sub-loop
     add-buf
     slice-read-buf
     slice-write-buf

@@ -9,7 +9,7 @@ use Rattle.interval.specs.declared.Interval.{Interval}
 use Rattle.interval.specs.Record.{recordBytes}
 use Rattle.finder.specs.declared.Found.{Found}
 use Rattle.finder.specs.declared.Window.{Window}
-use Rattle.finder.specs.Samples.{ceilDiv, stepsOf}
+use Rattle.finder.specs.Samples.{mostSteps, ceilDiv, stepsOf}
 use Rattle.finder.specs.Spans.{Span, listOf}
 use Rattle.finder.specs.Asked.{instantsOf}
 
@@ -38,6 +38,10 @@ foundOf f w = record { intervals = length (listOf f w); asked = length (instants
 unfoldable pub roomOf : Window → ℕ
 roomOf w = 24 * ceilDiv (stepsOf w + 1) 2
 
--- a lent list with so much room
+-- room for the list of any window that refusal 7 lets through: 24·2,049 bytes
+abbrev pub roomForAny : ℕ
+roomForAny = 24 * ceilDiv (mostSteps + 1) 2
+
+-- a lent list with so much room as its window asks
 abbrev pub HasRoom : Window → List ℕ → Type 0
 HasRoom w out = roomOf w ≤ length out

@@ -11,6 +11,10 @@ lastEnd = 2678400000
 abbrev pub longestStep : ℕ
 longestStep = 1048576
 
+-- the most steps (document 01, "Turned away", 7)
+abbrev pub mostSteps : ℕ
+mostSteps = 4096
+
 -- a window and a step that refusals 6 and 7 let through, however many steps there are
 pub record Good (w : Window) : Type 0 where
   pub window : w .t0 < w .t1

@@ -28,7 +28,7 @@ use Rattle.elements.proofs.Rows.{Told, plain, told, ordered, passed-accepted, f
 use Rattle.elements.proofs.Exactly as reading
 use Rattle.geometry.specs.Placed.{settlesAt}
 use Rattle.finder.specs.declared.Window.{Window}
-use Rattle.finder.specs.Samples.{Good, stepsOf}
+use Rattle.finder.specs.Samples.{mostSteps, Good, stepsOf}
 use Rattle.finder.specs.Spans.{listOf}
 use Rattle.finder.specs.Records.{recordsOf, foundOf, roomOf}
 use Rattle.job.specs.Table.{windowOf, questionOf, badWindow, badStep, badQuestion, noRoom, orbitWith, rowsFromWindow, tableOf}
@@ -201,7 +201,7 @@ module _ (s : List ℕ) (room : ℕ) where
     unfolding tableOf fieldRows rowAt
     listed-good = good (windowOf s) (passes 16) (passes 17)
 
-    pub listed-few : stepsOf (windowOf s) ≤ 4096
+    pub listed-few : stepsOf (windowOf s) ≤ mostSteps
     unfolding tableOf fieldRows rowAt
     listed-few = few-steps (windowOf s) (passes 16) (passes 17)
 

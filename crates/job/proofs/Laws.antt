@@ -18,7 +18,7 @@ use Rattle.refusal.proofs.Order.{then-passed, when-passed, passed-exactly}
 use Rattle.elements.specs.declared.reading.Elements.{Elements}
 use Rattle.geometry.proofs.Laws.{settles-always}
 use Rattle.finder.specs.declared.Window.{Window}
-use Rattle.finder.specs.Samples.{lastEnd, longestStep, Good, stepsOf}
+use Rattle.finder.specs.Samples.{lastEnd, longestStep, mostSteps, Good, stepsOf}
 use Rattle.finder.specs.Records.{roomOf}
 use Rattle.job.specs.Table.{badWindow, badStep, badQuestion, noRoom, windowRow, stepRow, questionRow, roomRow, orbitWith, keplerRow}
 
@@ -58,9 +58,9 @@ room-is w = omega arith
 -- ---- 6 and 7
 
 module _ (w : Window) (h6 : windowRow w ≡ Passed) (h7 : stepRow w ≡ Passed) where
-  step-tests : ((eqb (w .step) 0 || ltb longestStep (w .step)) ≡ false) × (ltb 4096 (stepsOf w) ≡ false)
+  step-tests : ((eqb (w .step) 0 || ltb longestStep (w .step)) ≡ false) × (ltb mostSteps (stepsOf w) ≡ false)
   unfolding badStep
-  step-tests = neither (eqb (w .step) 0 || ltb longestStep (w .step)) (ltb 4096 (stepsOf w)) (when-passed (badStep w) refusal.Step h7)
+  step-tests = neither (eqb (w .step) 0 || ltb longestStep (w .step)) (ltb mostSteps (stepsOf w)) (when-passed (badStep w) refusal.Step h7)
 
   pub good : Good w
   unfolding badWindow
@@ -75,8 +75,8 @@ module _ (w : Window) (h6 : windowRow w ≡ Passed) (h7 : stepRow w ≡ Passed) 
         short = ltb-false longestStep (w .step) (b .1);
       }
 
-  pub few-steps : stepsOf w ≤ 4096
-  few-steps = ltb-false 4096 (stepsOf w) (step-tests .1)
+  pub few-steps : stepsOf w ≤ mostSteps
+  few-steps = ltb-false mostSteps (stepsOf w) (step-tests .1)
 
 pub both-good : (w : Window) → (windowRow w then stepRow w) ≡ Passed → Good w
 both-good w h = let p = both (windowRow w) (stepRow w) h in good w (p .0) (p .1)

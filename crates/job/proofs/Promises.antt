@@ -31,10 +31,10 @@ use Rattle.geometry.specs.Visible.{upAt, visibleAt, answerAt}
 use Rattle.interval.specs.Record.{parsedOf}
 use Rattle.interval.specs.declared.Parsed.the-variants.{Record}
 use Rattle.finder.specs.declared.Window.{Window}
-use Rattle.finder.specs.Samples.{Good, stepsOf, sampleAt, samples}
+use Rattle.finder.specs.Samples.{mostSteps, Good, stepsOf, sampleAt, samples}
 use Rattle.finder.specs.Spans.{Span, span, listOf}
 use Rattle.finder.specs.Asked.{instantsOf, changesOf}
-use Rattle.finder.specs.Records.{intervalOf, recordsOf, foundOf}
+use Rattle.finder.specs.Records.{intervalOf, recordsOf, foundOf, roomForAny}
 use Rattle.finder.specs.Fits.{Fits, InOrder, listed, Step, Endpoints}
 use Rattle.finder.proofs.Samples.{sample-first, sample-end}
 use Rattle.finder.proofs.Counts.{instants-most}
@@ -97,7 +97,7 @@ module _ (s old : List ℕ) (o : Outcome) (new : List ℕ) (job : Job s old o ne
   kepler-never h = exactly.kepler-never s room (sym (job .answer) ∙ h)
 
   -- refusal 9 is never given where there is room for 2,049 intervals
-  pub room-never : 49176 ≤ room → o ≡ Refused refusal.Room → ⊥
+  pub room-never : roomForAny ≤ room → o ≡ Refused refusal.Room → ⊥
   room-never enough h = roomy.room-never s room enough (sym (job .answer) ∙ h)
 
   -- NaN and infinity are refused by field: the first field k that is one, with its bits
@@ -212,5 +212,5 @@ module _ (s old : List ℕ) (o : Outcome) (new : List ℕ) (job : Job s old o ne
     count-most = omega (arith, count-is, instants-most f w)
 
     -- in a window of at most 4,096 steps
-    pub steps-most : stepsOf w ≤ 4096
+    pub steps-most : stepsOf w ≤ mostSteps
     steps-most = exactly.listed-few s room is-listed

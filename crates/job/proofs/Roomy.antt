@@ -14,31 +14,31 @@ use Rattle.elements.specs.declared.reading.Elements.{Elements}
 use Rattle.refusal.proofs.Order.{not-both}
 use Rattle.elements.specs.Reading.{elementsOf, fieldRows, recordRows}
 use Rattle.finder.specs.declared.Window.{Window}
-use Rattle.finder.specs.Samples.{stepsOf}
-use Rattle.finder.specs.Records.{roomOf}
+use Rattle.finder.specs.Samples.{mostSteps, stepsOf}
+use Rattle.finder.specs.Records.{roomOf, roomForAny}
 use Rattle.job.specs.Table.{windowOf, questionOf, noRoom, windowRow, stepRow, questionRow, roomRow, rowsFromSearch, rowsFromQuestion, rowsFromWindow, tableOf}
 use Rattle.job.specs.Outcome.{answersIn, outcomeFrom, recordsFrom, outcomeOf, recordsIn}
-use Rattle.job.specs.Reply.{jobOf, closingOf, replyOf}
+use Rattle.job.specs.Reply.{roomForReply, replyOf}
 use Rattle.job.specs.declared.Outcome.the-variants.{Refused}
 use Rattle.job.proofs.Laws.{both, few-steps}
 use Rattle.job.proofs.Exactly.{refused-exactly}
 use Rattle.job.proofs.Cases.{question-parts, window-parts, table-parts}
 
 -- a window of at most 4,096 steps has room
-row-passes : (w : Window) (room : ℕ) → stepsOf w ≤ 4096 → 49176 ≤ room → roomRow w room ≡ verdict.Passed
+row-passes : (w : Window) (room : ℕ) → stepsOf w ≤ mostSteps → roomForAny ≤ room → roomRow w room ≡ verdict.Passed
 unfolding noRoom roomOf
 row-passes w room few enough = ap (λ (t : Bool). when t refusal.Room) (le-ltb room (roomOf w) (omega arith))
 
 -- so with so much room no job is refused for it
-pub room-never : (s : List ℕ) (room : ℕ) → 49176 ≤ room → outcomeOf s room ≡ Refused refusal.Room → ⊥
+pub room-never : (s : List ℕ) (room : ℕ) → roomForAny ≤ room → outcomeOf s room ≡ Refused refusal.Room → ⊥
 unfolding tableOf fieldRows rowAt
 room-never s room enough h =
     let gives = refused-exactly s room refusal.Room .0 h in
     let few = few-steps (windowOf s) (gives .none-before 16 (lit< tt)) (gives .none-before 17 (lit< tt)) in
     not-both (row-passes (windowOf s) room few enough) (gives .applies)
 
-module _ (e : Elements) (w : Window) (q a b : ℕ) (p : 49176 ≤ a) (r : 49176 ≤ b) where
-  same-question : stepsOf w ≤ 4096 → first (rowsFromQuestion e w q a) ≡ first (rowsFromQuestion e w q b)
+module _ (e : Elements) (w : Window) (q a b : ℕ) (p : roomForAny ≤ a) (r : roomForAny ≤ b) where
+  same-question : stepsOf w ≤ mostSteps → first (rowsFromQuestion e w q a) ≡ first (rowsFromQuestion e w q b)
   same-question few =
       question-parts e w q a
       ∙ ap (λ (v : Verdict). (questionRow q then v) then first (rowsFromSearch e w)) (row-passes w a few p ∙ sym (row-passes w b few r))
@@ -53,7 +53,7 @@ module _ (e : Elements) (w : Window) (q a b : ℕ) (p : 49176 ≤ a) (r : 49176 
       by verdict.Passed h = let two = both (windowRow w) (stepRow w) h in same-question (few-steps w (two .0) (two .1))
       by (verdict.Refused x) h = refl
 
-module _ (s : List ℕ) (a b : ℕ) (p : 49176 ≤ a) (r : 49176 ≤ b) where
+module _ (s : List ℕ) (a b : ℕ) (p : roomForAny ≤ a) (r : roomForAny ≤ b) where
   same-verdict : first (tableOf s a) ≡ first (tableOf s b)
   same-verdict =
       table-parts s a
@@ -69,9 +69,9 @@ module _ (s : List ℕ) (a b : ℕ) (p : 49176 ≤ a) (r : 49176 ≤ b) where
   same-records = ap (λ (v : Verdict). recordsFrom v (answersIn s) (windowOf s)) same-verdict
 
 -- with 24 bytes more for the closing record
-pub reply-roomy : (s : List ℕ) (room : ℕ) → 49200 ≤ room → replyOf s room ≡ replyOf s 49200
+pub reply-roomy : (s : List ℕ) (room : ℕ) → roomForReply ≤ room → replyOf s room ≡ replyOf s roomForReply
 unfolding replyOf
 reply-roomy s room h =
-    let lent : 49176 ≤ room - 24 = omega arith in
-    let least : 49176 ≤ 49200 - 24 = omega arith in
-    rw (le-leb 24 room (omega arith), same-records s (room - 24) (49200 - 24) lent least, same-outcome s (room - 24) (49200 - 24) lent least)
+    let lent : roomForAny ≤ room - 24 = omega arith in
+    let least : roomForAny ≤ roomForReply - 24 = omega arith in
+    rw (le-leb 24 room (omega arith), same-records s (room - 24) (roomForReply - 24) lent least, same-outcome s (room - 24) (roomForReply - 24) lent least)

@@ -14,7 +14,7 @@ use Rattle.geometry.specs.declared.Orbit.{Orbit}
 use Rattle.geometry.specs.Prepared.{orbitOf}
 use Rattle.geometry.specs.Placed.{settlesAt}
 use Rattle.finder.specs.declared.Window.{Window}
-use Rattle.finder.specs.Samples.{lastEnd, longestStep, stepsOf}
+use Rattle.finder.specs.Samples.{lastEnd, longestStep, mostSteps, stepsOf}
 use Rattle.finder.specs.Records.{roomOf}
 
 -- ---- what stands in a record beside its fields (document 01, "What the desk feeds and gets")
@@ -35,7 +35,7 @@ badWindow w = leb (w .t1) (w .t0) || ltb lastEnd (w .t1)
 
 -- step 0 or above 1,048,576, or more than 4,096 steps
 unfoldable pub badStep : Window → Bool
-badStep w = eqb (w .step) 0 || ltb longestStep (w .step) || ltb 4096 (stepsOf w)
+badStep w = eqb (w .step) 0 || ltb longestStep (w .step) || ltb mostSteps (stepsOf w)
 
 -- question not 1 or 2
 unfoldable pub badQuestion : ℕ → Bool

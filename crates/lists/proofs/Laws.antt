@@ -10,7 +10,7 @@ use lib.Dec.{leb}
 use borrow.Author.Tests.{leb-true, leb-false}
 use lib.ListN.{length, getD, set, take, drop, length-append, length-drop, length-take}
 use lib.Seq.{sets, sets-eq, length-sets, length-take-le, take-all, take-suc, drop-length, drop-drop, getD-drop, getD-append-add}
-use Rattle.job.specs.Reply.{replyOf}
+use Rattle.job.specs.Reply.{roomForReply, replyOf}
 use Rattle.job.proofs.Parts.{reply-fits}
 use Rattle.job.proofs.Roomy.{reply-roomy}
 use Rattle.interval.proofs.Laws.{sets-append}
@@ -46,14 +46,14 @@ rest-sets xs l ys used h e =
 -- ---- one answer
 
 -- it fits where there is room for any
-pub answer-fits : (s : List ℕ) → length (answerOf s) ≤ 49200
-answer-fits s = reply-fits s 49200
+pub answer-fits : (s : List ℕ) → length (answerOf s) ≤ roomForReply
+answer-fits s = reply-fits s roomForReply
 
 -- piece n of s was answered in the rest of `out`: `new` stands there, of which r bytes are the answer's
 module _ (s out : List ℕ) (n end used r : ℕ) (new : List ℕ) (h : Room used out) (e : end ≡ min (136 * n + 136) (length s))
     (told : r ≡ length (replyOf (take (end - 136 * n) (drop (136 * n) s)) (length (take (length out - used) (drop used out)))))
     (left : new ≡ sets (take (length out - used) (drop used out)) 0 (replyOf (take (end - 136 * n) (drop (136 * n) s)) (length (take (length out - used) (drop used out))))) where
-  room : 49200 ≤ length (take (length out - used) (drop used out))
+  room : roomForReply ≤ length (take (length out - used) (drop used out))
   room = simp (length-take, length-drop) (omega arith)
 
   answer-is : replyOf (take (end - 136 * n) (drop (136 * n) s)) (length (take (length out - used) (drop used out))) ≡ answerOf (pieceOf n s)
@@ -97,11 +97,11 @@ module _ {n : ℕ} {s old out : List ℕ} {used : ℕ} (stand : Stand n s old ou
   stand-fit = omega (arith, stand .inside, stand-long)
 
   -- the loop's test
-  pub stand-room : leb 49200 (length out - used) ≡ true → Room used out
-  stand-room h = omega (arith, leb-true 49200 (length out - used) h, stand-fit)
+  pub stand-room : leb roomForReply (length out - used) ≡ true → Room used out
+  stand-room h = omega (arith, leb-true roomForReply (length out - used) h, stand-fit)
 
   -- without room for one more there is one
-  pub stand-some : Room 0 old → length out - used < 49200 → 0 < n
+  pub stand-some : Room 0 old → length out - used < roomForReply → 0 < n
   stand-some room full = by n refl
     where
       by : (k : ℕ) → n ≡ k → 0 < k

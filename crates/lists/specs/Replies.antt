@@ -2,7 +2,7 @@
 use Prim.Native.Nat.{ℕ, zero, suc, _+_, _*_, _≤_, _<_}
 use mathlib.Core.List.{List, [], _++_}
 use lib.ListN.{length, take, drop}
-use Rattle.job.specs.Reply.{replyOf}
+use Rattle.job.specs.Reply.{roomForReply, replyOf}
 
 -- piece n, counted from 0: a record of 136 bytes, or the short piece at the end
 abbrev pub pieceOf : ℕ → List ℕ → List ℕ
@@ -10,7 +10,7 @@ pieceOf n s = take 136 (drop (136 * n) s)
 
 -- the answer to a piece, with room for any: 24 bytes for each of 2,049 intervals, and 24 for the closing record
 abbrev pub answerOf : List ℕ → List ℕ
-answerOf s = replyOf s 49200
+answerOf s = replyOf s roomForReply
 
 -- the answers to the first n pieces, one behind the other
 unfoldable pub repliesOf : ℕ → List ℕ → List ℕ
@@ -29,4 +29,4 @@ Pieces n s = (0 < n) × (136 * n < length s + 136)
 
 -- room for any answer behind the `used` bytes
 abbrev pub Room : ℕ → List ℕ → Type 0
-Room used out = used + 49200 ≤ length out
+Room used out = used + roomForReply ≤ length out

@@ -1,14 +1,13 @@
 -- The list is made of the answers at the instants asked, and no others: two answers that are alike there have one list, and ask the same.
 use Prim.Native.Nat.{ℕ}
 use mathlib.Core.Path.{_≡_, refl, sym, ap, _∙_}
-use mathlib.Core.List.{List, [], _∷_, _++_}
-use mathlib.Core.Bool.{Bool, true, false, cond, not, _&&_, Bool·beq}
-use Rattle.halving.specs.declared.Edge.{Edge}
+use mathlib.Core.List.{List, [], _∷_}
+use mathlib.Core.Bool.{Bool, true, false, cond}
 use Rattle.halving.specs.Halving.{middlesOf}
 use Rattle.halving.proofs.Alike.{Alike, alike-both, alike}
 use Rattle.finder.specs.declared.Window.{Window}
 use Rattle.finder.specs.Samples.{samples}
-use Rattle.finder.specs.Spans.{Span, span, sameAs, edge, closed, opened, ended, walk, listOf}
+use Rattle.finder.specs.Spans.{sameAs, edge, closed, opened, ended, walk, listOf}
 use Rattle.finder.specs.Asked.{middlesIn, askedAfter, instantsOf}
 use Rattle.finder.proofs.Turn.{beq-true, closed-same, opened-same}
 

@@ -1,7 +1,7 @@
 -- The loop over the samples: at each turn what is counted and written, with what is still to come, is the whole list.
 use Prim.Native.Nat.{ℕ, zero, suc, _+_, _-_, _*_, _≤_, _<_}
 use mathlib.Core.Path.{_≡_, refl, sym, ap, _∙_}
-use mathlib.Core.List.{List, [], _∷_, _++_}
+use mathlib.Core.List.{List, _++_}
 use mathlib.Core.Bool.{Bool}
 use native.Mathlib.Omega.{arith}
 use native.Mathlib.Numerals.{sub-one}
@@ -9,7 +9,7 @@ use lib.ListN.{length, length-append}
 use lib.Seq.{length-sets}
 use Rattle.finder.specs.declared.State.{State}
 use Rattle.finder.specs.declared.Window.{Window}
-use Rattle.finder.specs.Samples.{Good, ceilDiv, stepsOf, sampleAt, samplesFrom, samples}
+use Rattle.finder.specs.Samples.{Good, stepsOf, sampleAt, samplesFrom, samples}
 use Rattle.finder.specs.Spans.{closed, opened, ended, walk, listOf}
 use Rattle.finder.specs.Asked.{middlesIn, askedAfter, instantsOf}
 use Rattle.finder.specs.Records.{recordsOf, written, foundOf, roomOf, HasRoom}

@@ -1,14 +1,13 @@
 -- The third promise of the list, over any yes/no answer f: each part from fitting alone, first along the samples, then by a step's number.
 use Prim.Native.Nat.{ℕ, zero, suc, _+_, _≤_, _<_}
-use mathlib.Core.Path.{_≡_, refl, sym, ap, subst, _∙_}
+use mathlib.Core.Path.{_≡_, refl, subst}
 use mathlib.Core.Logic.{inl}
-use mathlib.Core.List.{List, [], _∷_}
 use mathlib.Core.Bool.{Bool}
 use native.Mathlib.Omega.{arith}
 use native.Mathlib.Nat.{zero-add}
 use Rattle.finder.specs.declared.Window.{Window}
 use Rattle.finder.specs.Samples.{Good, stepsOf, sampleAt, samplesFrom, samples}
-use Rattle.finder.specs.Spans.{Span, listOf}
+use Rattle.finder.specs.Spans.{listOf}
 use Rattle.finder.specs.Fits.{Fits, InOrder, listed, Step, Follows, Endpoints}
 use Rattle.finder.proofs.Samples.{sample-first, samples-rise, samples-end}
 use Rattle.finder.proofs.Fits.{walk-fits, in-order, follows, endpoints}

@@ -1,11 +1,11 @@
 -- The samples of a window: each from the one before, in steps that are not too long, and t1 last.
-use Prim.Native.Nat.{ℕ, zero, suc, _+_, _-_, _*_, _/_, _≤_, _<_, min}
+use Prim.Native.Nat.{ℕ, zero, suc, _+_, _-_, _≤_}
 use mathlib.Core.Path.{_≡_, refl, sym, ap, subst, _∙_}
 use native.Mathlib.Omega.{arith}
 use native.Mathlib.Nat.{zero-add, div-add-mod', mod-lt, div-le-self, suc-mul}
 use lib.ListN.{length}
 use Rattle.finder.specs.declared.Window.{Window}
-use Rattle.finder.specs.Samples.{Good, ceilDiv, stepsOf, sampleAt, samplesFrom, samples}
+use Rattle.finder.specs.Samples.{Good, stepsOf, sampleAt, samplesFrom, samples}
 use Rattle.finder.specs.Fits.{Rising, lastOf}
 use Rattle.finder.specs.State.{next}
 

@@ -8,7 +8,7 @@ use lib.ListN.{length}
 use Rattle.halving.specs.declared.Edge.{Edge}
 use Rattle.finder.specs.declared.State.{State}
 use Rattle.finder.specs.declared.Window.{Window}
-use Rattle.finder.specs.Spans.{span, sameAs, edge, closed, opened, ended}
+use Rattle.finder.specs.Spans.{span, edge, closed, ended}
 use Rattle.finder.specs.Asked.{middlesIn}
 use Rattle.finder.specs.Records.{recordsOf, written}
 use Rattle.finder.specs.State.{Room, advanced, finished}

@@ -1,7 +1,7 @@
 -- One step of the walk, by what its two ends answer: the end of the list that it closes or opens, and the instants that it asks.
-use Prim.Native.Nat.{ℕ, suc, _+_, _≤_}
-use mathlib.Core.Path.{_≡_, refl, sym, ap, _∙_}
-use mathlib.Core.List.{List, [], _∷_}
+use Prim.Native.Nat.{ℕ, _≤_}
+use mathlib.Core.Path.{_≡_, refl, sym}
+use mathlib.Core.List.{[], _∷_}
 use mathlib.Core.Bool.{Bool, true, false, not, _&&_, Bool·beq}
 use native.Mathlib.Omega.{arith}
 use lib.ListN.{length}

@@ -1,6 +1,6 @@
 -- The job's cases, each from what its parts answered: a refusal stops, and a pass hands on to the rows behind it.
 use Prim.Native.Nat.{ℕ}
-use mathlib.Core.Path.{_≡_, refl, sym, ap, _∙_}
+use mathlib.Core.Path.{_≡_, refl, sym, _∙_}
 use mathlib.Core.Bool.{Bool}
 use mathlib.Core.List.{List}
 use lib.ListN.{length}
@@ -19,7 +19,7 @@ use Rattle.finder.specs.declared.Window.{Window}
 use Rattle.finder.specs.declared.Found.{Found}
 use Rattle.finder.specs.Spans.{listOf}
 use Rattle.finder.specs.Records.{recordsOf, foundOf}
-use Rattle.job.specs.Table.{windowOf, questionOf, windowRow, stepRow, questionRow, roomRow, keplerRow, rowsFromSearch, rowsFromQuestion, rowsFromWindow, tableOf}
+use Rattle.job.specs.Table.{windowOf, questionOf, windowRow, stepRow, questionRow, roomRow, rowsFromSearch, rowsFromQuestion, rowsFromWindow, tableOf}
 use Rattle.job.specs.Outcome.{answersOf, answersIn, outcomeFrom, recordsFrom, outcomeOf, recordsIn, listAfter}
 use Rattle.job.specs.declared.Outcome.{Outcome}
 use Rattle.job.specs.declared.Outcome.the-variants.{Listed, Refused}

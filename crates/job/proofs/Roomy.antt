@@ -1,5 +1,5 @@
 -- Room for 2,049 intervals is enough for any job: then row 9 never applies, and what is answered does not depend on the room.
-use Prim.Native.Nat.{ℕ, _+_, _-_, _≤_}
+use Prim.Native.Nat.{ℕ, _-_, _≤_}
 use mathlib.Core.Path.{_≡_, refl, sym, ap, _∙_}
 use mathlib.Core.Bool.{Bool}
 use mathlib.Core.List.{List}

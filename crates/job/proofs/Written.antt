@@ -1,12 +1,11 @@
 -- The bytes that a listed job leaves, read back: the records from byte 0, each of them its interval, and the rest as it was.
-use Prim.Native.Nat.{ℕ, _+_, _*_, _^_, _≤_, _<_}
+use Prim.Native.Nat.{ℕ, _+_, _*_, _≤_, _<_}
 use mathlib.Core.Path.{_≡_, refl, sym, ap, subst, _∙_}
 use mathlib.Core.List.{List, _++_}
 use native.Mathlib.Omega.{arith}
 use native.Mathlib.Nat.{zero-add}
-use lib.Dec.{lit<}
 use lib.ListN.{length, getD, take, drop, length-drop}
-use lib.Seq.{sets, sets-eq, take-append-le, drop-append-le}
+use lib.Seq.{sets-eq, take-append-le, drop-append-le}
 use Rattle.words.specs.Little.{Bytes}
 use Rattle.words.proofs.Laws.{read-lt}
 use Rattle.interval.specs.declared.Interval.{Interval}
@@ -14,9 +13,8 @@ use Rattle.interval.specs.Record.{recordBytes, parsedOf, Sized}
 use Rattle.interval.specs.declared.Parsed.the-variants.{Record}
 use Rattle.interval.proofs.Laws.{reads, read-back, length-record}
 use Rattle.elements.specs.Reading.{WholeRecord}
-use Rattle.finder.specs.Samples.{ceilDiv, stepsOf}
 use Rattle.finder.specs.Spans.{Span, span, listOf}
-use Rattle.finder.specs.Records.{flagsOf, intervalOf, recordsOf, foundOf, roomOf}
+use Rattle.finder.specs.Records.{intervalOf, recordsOf, foundOf, roomOf}
 use Rattle.finder.proofs.Counts.{list-most}
 use Rattle.finder.proofs.Records.{length-records, record-at, flags-most, in-order-at}
 use Rattle.finder.proofs.Listed.{list-in-order}

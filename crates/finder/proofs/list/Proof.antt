@@ -1,6 +1,5 @@
 -- `finder::list` meets its contract. The loop's invariant: what is counted and written, with what is still to come, is the whole list.
-use mathlib.Core.Path.{_∙_, sym, ap, subst}
-use native.Mathlib.Omega.{arith}
+use mathlib.Core.Path.{_∙_}
 use borrow.Author.Needs.{needs}
 use Rattle.geometry.specs.Visible.{answerAt}
 use Rattle.finder.proofs.Going.{Going, going-start, going-sampled, going-stretch, going-few, going-room, going-on, end-room, end-found, end-out}

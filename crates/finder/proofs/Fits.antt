@@ -63,7 +63,7 @@ changes f a b k p q = record { at-a = p; at-b = q; from = k .from; to = k .to; b
 
 -- ---- the list fits
 
-pub clash : {x : Bool} → x ≡ true → x ≡ false → ⊥
+clash : {x : Bool} → x ≡ true → x ≡ false → ⊥
 clash p q = true≢false (sym p ∙ q)
 
 module _ (f : ℕ → Bool) where
@@ -90,7 +90,7 @@ module _ (f : ℕ → Bool) where
 
   -- ---- what fits is in order and inside
 
-  pub last-most : (a : ℕ) (ts : List ℕ) → Rising a ts → a ≤ lastOf a ts
+  last-most : (a : ℕ) (ts : List ℕ) → Rising a ts → a ≤ lastOf a ts
   unfolding lastOf
   last-most a [] h = omega arith
   last-most a (b ∷ ts) h = omega (arith, last-most b ts (h .2), h .0)
@@ -119,7 +119,7 @@ before low high [] t o h = refl
 before low high (s ∷ l) t o h =
     rw (lt-leb (s .first) t (omega (arith, o .0))) (before (s .last + 2) high l t (o .3) (omega (arith, o .0, o .1)))
 
-pub within-yes : (s : Span) (t : ℕ) → s .first ≤ t → t ≤ s .last → within s t ≡ true
+within-yes : (s : Span) (t : ℕ) → s .first ≤ t → t ≤ s .last → within s t ≡ true
 within-yes s t p q = rw (le-leb (s .first) t p, le-leb t (s .last) q)
 
 pub past : (s : Span) (l : List Span) (t : ℕ) → s .last < t → listed (s ∷ l) t ≡ listed l t

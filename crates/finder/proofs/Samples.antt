@@ -25,7 +25,7 @@ module _ (w : Window) where
   length-samples i (suc k) = ap suc (length-samples (suc i) k)
 
   -- the k samples behind sample i end with sample i + k
-  pub samples-last : (i k : ℕ) → lastOf (sampleAt w i) (samplesFrom w (suc i) k) ≡ sampleAt w (i + k)
+  samples-last : (i k : ℕ) → lastOf (sampleAt w i) (samplesFrom w (suc i) k) ≡ sampleAt w (i + k)
   unfolding samplesFrom lastOf
   samples-last i zero = ap (sampleAt w) (omega arith)
   samples-last i (suc k) = samples-last (suc i) k ∙ ap (sampleAt w) (omega arith)
@@ -40,7 +40,7 @@ module _ (w : Window) where
     sample-first = omega (arith, good .window)
 
     -- samples in order, in steps that are not too long
-    pub rise-from : (i k : ℕ) → Rising (sampleAt w i) (samplesFrom w (suc i) k)
+    rise-from : (i k : ℕ) → Rising (sampleAt w i) (samplesFrom w (suc i) k)
     unfolding samplesFrom
     rise-from i zero = tt
     rise-from i (suc k) =

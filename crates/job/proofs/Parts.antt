@@ -58,11 +58,11 @@ module _ (s : List ℕ) (room : ℕ) where
   unfolding tableOf fieldRows rowAt
   table-roomy h = roomy (windowOf s) room (passed-exactly (tableOf s room) .0 h 19)
 
-  pub length-list : length (recordsIn s room) ≡ 24 * intervalsOf (outcomeOf s room)
+  length-list : length (recordsIn s room) ≡ 24 * intervalsOf (outcomeOf s room)
   unfolding recordsIn outcomeOf
   length-list = length-from (first (tableOf s room)) (answersIn s) (windowOf s)
 
-  pub records-fit : length (recordsIn s room) ≤ room
+  records-fit : length (recordsIn s room) ≤ room
   unfolding recordsIn
   records-fit = fits-from (first (tableOf s room)) (answersIn s) (windowOf s) room table-roomy
 

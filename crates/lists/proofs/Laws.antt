@@ -19,7 +19,7 @@ use Rattle.lists.specs.Replies.{pieceOf, answerOf, repliesOf, Room}
 -- ---- a piece
 
 -- up to its end, which is 136 bytes on or the end of s
-pub piece-is : (n : ℕ) (s : List ℕ) (end : ℕ) → end ≡ min (136 * n + 136) (length s) → take (end - 136 * n) (drop (136 * n) s) ≡ pieceOf n s
+piece-is : (n : ℕ) (s : List ℕ) (end : ℕ) → end ≡ min (136 * n + 136) (length s) → take (end - 136 * n) (drop (136 * n) s) ≡ pieceOf n s
 piece-is n s end e = by (leb (136 * n + 136) (length s)) refl
   where
     by : (b : Bool) → leb (136 * n + 136) (length s) ≡ b → take (end - 136 * n) (drop (136 * n) s) ≡ pieceOf n s
@@ -34,7 +34,7 @@ piece-is n s end e = by (leb (136 * n + 136) (length s)) refl
 -- ---- stores in the rest of a buffer
 
 -- what was stored from byte 0 of the rest on was stored from `used` on
-pub rest-sets : (xs l ys : List ℕ) (used : ℕ) → used + length xs ≤ length l → ys ≡ sets (take (length l - used) (drop used l)) 0 xs → take used l ++ (ys ++ drop (length l - used) (drop used l)) ≡ sets l used xs
+rest-sets : (xs l ys : List ℕ) (used : ℕ) → used + length xs ≤ length l → ys ≡ sets (take (length l - used) (drop used l)) 0 xs → take used l ++ (ys ++ drop (length l - used) (drop used l)) ≡ sets l used xs
 rest-sets xs l ys used h e =
     let end : used + (length l - used) ≡ length l = omega arith in
     let rest : take (length l - used) (drop used l) ≡ drop used l = take-all (length l - used) (drop used l) (simp length-drop (omega arith)) in
@@ -46,7 +46,7 @@ rest-sets xs l ys used h e =
 -- ---- one answer
 
 -- it fits where there is room for any
-pub answer-fits : (s : List ℕ) → length (answerOf s) ≤ roomForReply
+answer-fits : (s : List ℕ) → length (answerOf s) ≤ roomForReply
 answer-fits s = reply-fits s roomForReply
 
 -- piece n of s was answered in the rest of `out`: `new` stands there, of which r bytes are the answer's

@@ -7,9 +7,9 @@ use Rattle.halving.specs.Halving.{middlesOf}
 use Rattle.halving.proofs.Alike.{Alike, alike-both, alike}
 use Rattle.finder.specs.declared.Window.{Window}
 use Rattle.finder.specs.Samples.{samples}
-use Rattle.finder.specs.Spans.{sameAs, edge, closed, opened, ended, walk, listOf}
+use Rattle.finder.specs.Spans.{sameAs, edge, closedIn, firstAfter, ended, walk, listOf}
 use Rattle.finder.specs.Asked.{middlesIn, askedAfter, instantsOf}
-use Rattle.finder.proofs.Turn.{beq-true, closed-same, opened-same}
+use Rattle.finder.proofs.OneStep.{beq-true, closed-same, first-same}
 
 module _ (f g : ℕ → Bool) where
   -- answers alike are the same as a alike
@@ -20,7 +20,7 @@ module _ (f g : ℕ → Bool) where
   -- one step: what it closes, opens and asks
   module _ (first a b : ℕ) (at-a : g a ≡ f a) (at-b : g b ≡ f b) where
     abbrev StepAlike : Type 0
-    StepAlike = (closed g first a b ≡ closed f first a b) × (opened g first a b ≡ opened f first a b) × (middlesIn g a b ≡ middlesIn f a b)
+    StepAlike = (closedIn g first a b ≡ closedIn f first a b) × (firstAfter g first a b ≡ firstAfter f first a b) × (middlesIn g a b ≡ middlesIn f a b)
 
     again : sameAs g a b ≡ sameAs f a b
     again = rw (at-a, at-b)
@@ -32,13 +32,13 @@ module _ (f g : ℕ → Bool) where
         let same : f a ≡ f b = sym (beq-true (f b) (f a) e) in
         let same′ : g a ≡ g b = at-a ∙ same ∙ sym at-b in (
           closed-same g first a b same′ ∙ sym (closed-same f first a b same),
-          opened-same g first a b same′ ∙ sym (opened-same f first a b same),
+          first-same g first a b same′ ∙ sym (first-same f first a b same),
           rw (again, e),
         )
 
     -- they differ: the search is the same
     apart : sameAs f a b ≡ false → Alike f g (middlesOf (sameAs f a) 20 a b) → StepAlike
-    unfolding middlesIn closed opened edge
+    unfolding middlesIn closedIn firstAfter edge
     apart e h =
         let one = alike (sameAs f a) (sameAs g a) 20 a b 0 (same-alike a (middlesOf (sameAs f a) 20 a b) at-a h) in
         (rw (at-a, at-b, one .0), rw (at-a, at-b, one .0), rw (again, e, one .1))
@@ -58,7 +58,7 @@ module _ (f g : ℕ → Bool) where
   walk-alike first a (b ∷ ts) p h =
       let parts = alike-both f g (middlesIn f a b) (askedAfter f b ts) (h .1) in
       let step = step-alike first a b p (h .0) (parts .0) in
-      let rest = walk-alike (opened f first a b) b ts (h .0) (parts .1) in
+      let rest = walk-alike (firstAfter f first a b) b ts (h .0) (parts .1) in
       (rw (step .0, step .1, rest .0), rw (step .2, rest .1))
 
   -- the list and the instants asked

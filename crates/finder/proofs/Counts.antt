@@ -7,9 +7,9 @@ use native.Mathlib.Omega.{arith}
 use lib.ListN.{length, length-append}
 use Rattle.finder.specs.declared.Window.{Window}
 use Rattle.finder.specs.Samples.{ceilDiv, stepsOf, samples}
-use Rattle.finder.specs.Spans.{span, sameAs, edge, closed, opened, ended, walk, listOf}
+use Rattle.finder.specs.Spans.{span, sameAs, edge, closedIn, firstAfter, ended, walk, listOf}
 use Rattle.finder.specs.Asked.{middlesIn, askedAfter, instantsOf, changesIn, changesOf}
-use Rattle.finder.proofs.Turn.{edge-most, middles-same, middles-differ}
+use Rattle.finder.proofs.OneStep.{edge-most, middles-same, middles-differ}
 use Rattle.finder.proofs.Samples.{length-samples}
 
 -- ---- intervals
@@ -24,8 +24,8 @@ one-if-most true = omega arith
 one-if-most false = omega arith
 
 -- a step closes an interval only from yes to no
-closed-most : (f : ℕ → Bool) (first a b : ℕ) → 2 * length (closed f first a b) + one-if (f b) ≤ 1 + one-if (f a)
-unfolding one-if closed
+closed-most : (f : ℕ → Bool) (first a b : ℕ) → 2 * length (closedIn f first a b) + one-if (f b) ≤ 1 + one-if (f a)
+unfolding one-if closedIn
 closed-most f first a b = by (f a) (f b)
   where
     by : (x y : Bool) → 2 * length (cond (x && not y) (span first (edge f a b .low) ∷ []) []) + one-if y ≤ 1 + one-if x
@@ -43,7 +43,7 @@ walk-most : (f : ℕ → Bool) (first a : ℕ) (ts : List ℕ) → 2 * length (w
 unfolding walk
 walk-most f first a [] = omega (arith, ended-most (f a) first a)
 walk-most f first a (b ∷ ts) =
-    rw length-append (omega (arith, closed-most f first a b, walk-most f (opened f first a b) b ts))
+    rw length-append (omega (arith, closed-most f first a b, walk-most f (firstAfter f first a b) b ts))
 
 -- at most ceil((n+1)/2) intervals, n steps
 pub list-most : (f : ℕ → Bool) (w : Window) → length (listOf f w) ≤ ceilDiv (stepsOf w + 1) 2

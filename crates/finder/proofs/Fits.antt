@@ -10,10 +10,10 @@ use borrow.Author.Tests.{le-leb, lt-leb}
 use Rattle.halving.specs.declared.Edge.{Edge}
 use Rattle.halving.proofs.Laws as halving
 use Rattle.finder.specs.Samples.{longestStep}
-use Rattle.finder.specs.Spans.{Span, span, sameAs, edge, closed, opened, ended, walk}
+use Rattle.finder.specs.Spans.{Span, span, sameAs, edge, closedIn, firstAfter, ended, walk}
 use Rattle.finder.specs.Fits.{Changes, Fits, InOrder, within, listed, Follows, Rising, lastOf, Begun, Endpoints}
 use Rattle.finder.specs.Fits.Fits.{shut, closes, stays, begins, ends}
-use Rattle.finder.proofs.Turn.{closed-same, opened-same, closed-ends, opened-ends, closed-begins, opened-begins, beq-refl, beq-true}
+use Rattle.finder.proofs.OneStep.{closed-same, first-same, closed-ends, first-ends, closed-begins, first-begins, beq-refl, beq-true}
 
 -- ---- the edge of a step
 
@@ -67,17 +67,17 @@ clash : {x : Bool} → x ≡ true → x ≡ false → ⊥
 clash p q = true≢false (sym p ∙ q)
 
 module _ (f : ℕ → Bool) where
-  one-step : (first a b : ℕ) (ts : List ℕ) → a ≤ b → b ≤ a + longestStep → ((g : ℕ) → Fits f g b ts (walk f g b ts)) → (x y : Bool) → f a ≡ x → f b ≡ y → Fits f first a (b ∷ ts) (closed f first a b ++ walk f (opened f first a b) b ts)
+  one-step : (first a b : ℕ) (ts : List ℕ) → a ≤ b → b ≤ a + longestStep → ((g : ℕ) → Fits f g b ts (walk f g b ts)) → (x y : Bool) → f a ≡ x → f b ≡ y → Fits f first a (b ∷ ts) (closedIn f first a b ++ walk f (firstAfter f first a b) b ts)
   one-step first a b ts h wide rest true true p q =
-      rw (closed-same f first a b (p ∙ sym q), opened-same f first a b (p ∙ sym q)) (stays (p ∙ sym q) (rest first))
+      rw (closed-same f first a b (p ∙ sym q), first-same f first a b (p ∙ sym q)) (stays (p ∙ sym q) (rest first))
   one-step first a b ts h wide rest false false p q =
-      rw (closed-same f first a b (p ∙ sym q), opened-same f first a b (p ∙ sym q)) (stays (p ∙ sym q) (rest first))
+      rw (closed-same f first a b (p ∙ sym q), first-same f first a b (p ∙ sym q)) (stays (p ∙ sym q) (rest first))
   one-step first a b ts h wide rest true false p q =
       let k = edged f a b h wide (λ e. clash p (e ∙ q)) in
-      rw (closed-ends f first a b p q, opened-ends f first a b p q) (ends (changes f a b k p q) (rest first))
+      rw (closed-ends f first a b p q, first-ends f first a b p q) (ends (changes f a b k p q) (rest first))
   one-step first a b ts h wide rest false true p q =
       let k = edged f a b h wide (λ e. clash q (sym e ∙ p)) in
-      rw (closed-begins f first a b p q, opened-begins f first a b p q, k .next) (begins (changes f a b k p q) (rest (edge f a b .low + 1)))
+      rw (closed-begins f first a b p q, first-begins f first a b p q, k .next) (begins (changes f a b k p q) (rest (edge f a b .low + 1)))
 
   no-step : (first a : ℕ) (x : Bool) → f a ≡ x → Fits f first a [] (ended (f a) first a)
   no-step first a true p = rw p (closes p)

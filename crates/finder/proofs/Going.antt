@@ -10,11 +10,11 @@ use lib.Seq.{length-sets}
 use Rattle.finder.specs.declared.State.{State}
 use Rattle.finder.specs.declared.Window.{Window}
 use Rattle.finder.specs.Samples.{Good, stepsOf, sampleAt, samplesFrom, samples}
-use Rattle.finder.specs.Spans.{closed, opened, ended, walk, listOf}
+use Rattle.finder.specs.Spans.{closedIn, firstAfter, ended, walk, listOf}
 use Rattle.finder.specs.Asked.{middlesIn, askedAfter, instantsOf}
 use Rattle.finder.specs.Records.{recordsOf, written, foundOf, roomOf, HasRoom}
 use Rattle.finder.specs.State.{Sampled, next, Stretch, Few, Room, advanced, finished}
-use Rattle.finder.proofs.Samples.{sample-next, sample-first, sample-inside, steps-most}
+use Rattle.finder.proofs.Samples.{sample-next, sample-first, sample-inside, steps-fit}
 use Rattle.finder.proofs.Records.{written-both}
 use Rattle.finder.proofs.Counts.{list-most, instants-few}
 
@@ -63,7 +63,7 @@ module _ (f : ℕ → Bool) (w : Window) (out₀ : List ℕ) (good : Good w) whe
           }
 
       pub going-few : Few s
-      going-few = omega (arith, g .asked, instants-few f w, steps-most w good)
+      going-few = omega (arith, g .asked, instants-few f w, steps-fit w good)
 
     -- where a step is left, to the sample b
     module _ (k : ℕ) (g : Going f w out₀ out s (suc k)) where
@@ -77,7 +77,7 @@ module _ (f : ℕ → Bool) (w : Window) (out₀ : List ℕ) (good : Good w) whe
       next-is = sym (sample-next w (g .i)) ∙ ap (next w) (sym (g .here))
 
       -- what is to come: the step to b, and the rest
-      to-come : walk f (s .first) (s .at) (samplesFrom w (suc (g .i)) (suc k)) ≡ closed f (s .first) (s .at) b ++ walk f (opened f (s .first) (s .at) b) b rest
+      to-come : walk f (s .first) (s .at) (samplesFrom w (suc (g .i)) (suc k)) ≡ closedIn f (s .first) (s .at) b ++ walk f (firstAfter f (s .first) (s .at) b) b rest
       unfolding samplesFrom walk
       to-come = rw next-is
 
@@ -85,44 +85,44 @@ module _ (f : ℕ → Bool) (w : Window) (out₀ : List ℕ) (good : Good w) whe
       unfolding samplesFrom askedAfter
       to-ask = rw (next-is, length-append (middlesIn f (s .at) b) (askedAfter f b rest)) (omega arith)
 
-      to-count : s .count + (length (closed f (s .first) (s .at) b) + length (walk f (opened f (s .first) (s .at) b) b rest)) ≡ length (listOf f w)
-      to-count = rw (← length-append (closed f (s .first) (s .at) b) (walk f (opened f (s .first) (s .at) b) b rest), ← to-come) (g .counted)
+      to-count : s .count + (length (closedIn f (s .first) (s .at) b) + length (walk f (firstAfter f (s .first) (s .at) b) b rest)) ≡ length (listOf f w)
+      to-count = rw (← length-append (closedIn f (s .first) (s .at) b) (walk f (firstAfter f (s .first) (s .at) b) b rest), ← to-come) (g .counted)
 
-      step-room : HasRoom w out₀ → Room (s .count) (length (closed f (s .first) (s .at) b)) out
+      step-room : HasRoom w out₀ → Room (s .count) (length (closedIn f (s .first) (s .at) b)) out
       unfolding roomOf
       step-room h = omega (arith, to-count, g .long, list-most f w)
 
-      step-on : (out′ : List ℕ) → out′ ≡ written w out (s .count) (closed f (s .first) (s .at) b) → Going f w out₀ out′ (advanced f s b) k
+      step-on : (out′ : List ℕ) → out′ ≡ written w out (s .count) (closedIn f (s .first) (s .at) b) → Going f w out₀ out′ (advanced f s b) k
       unfolding advanced
       step-on out′ e =
           record {
             i = suc (g .i);
             all = omega (arith, g .all);
             here = sym next-is;
-            long = ap length e ∙ length-sets out (24 * s .count) (recordsOf w (closed f (s .first) (s .at) b)) ∙ g .long;
+            long = ap length e ∙ length-sets out (24 * s .count) (recordsOf w (closedIn f (s .first) (s .at) b)) ∙ g .long;
             answered = refl;
             counted = omega (arith, to-count);
             asked = omega (arith, to-ask, g .asked);
             bytes =
-                ap (λ (l : List ℕ). written w l (s .count + length (closed f (s .first) (s .at) b)) (walk f (opened f (s .first) (s .at) b) b rest)) e
-                ∙ written-both w out (s .count) (closed f (s .first) (s .at) b) (walk f (opened f (s .first) (s .at) b) b rest)
+                ap (λ (l : List ℕ). written w l (s .count + length (closedIn f (s .first) (s .at) b)) (walk f (firstAfter f (s .first) (s .at) b) b rest)) e
+                ∙ written-both w out (s .count) (closedIn f (s .first) (s .at) b) (walk f (firstAfter f (s .first) (s .at) b) b rest)
                 ∙ ap (written w out (s .count)) (sym to-come)
                 ∙ g .bytes;
           }
 
     -- the same where the steps left are counted down
     module _ (left : ℕ) (g : Going f w out₀ out s left) (more : 0 < left) where
-      pub going-room : HasRoom w out₀ → (b : ℕ) → b ≡ next w (s .at) → Room (s .count) (length (closed f (s .first) (s .at) b)) out
+      pub going-room : HasRoom w out₀ → (b : ℕ) → b ≡ next w (s .at) → Room (s .count) (length (closedIn f (s .first) (s .at) b)) out
       going-room room b here = rw here (go left g more room)
         where
-          go : (n : ℕ) → Going f w out₀ out s n → 0 < n → HasRoom w out₀ → Room (s .count) (length (closed f (s .first) (s .at) (next w (s .at)))) out
+          go : (n : ℕ) → Going f w out₀ out s n → 0 < n → HasRoom w out₀ → Room (s .count) (length (closedIn f (s .first) (s .at) (next w (s .at)))) out
           go zero g more = absurd (omega arith)
           go (suc k) g more = step-room k g
 
-      pub going-on : (out′ : List ℕ) (s′ : State) (b : ℕ) → b ≡ next w (s .at) → s′ ≡ advanced f s b → out′ ≡ written w out (s .count) (closed f (s .first) (s .at) b) → Going f w out₀ out′ s′ (left - 1)
+      pub going-on : (out′ : List ℕ) (s′ : State) (b : ℕ) → b ≡ next w (s .at) → s′ ≡ advanced f s b → out′ ≡ written w out (s .count) (closedIn f (s .first) (s .at) b) → Going f w out₀ out′ s′ (left - 1)
       going-on out′ s′ b here p q = rw (p, here) (go left g more (rw here at q))
         where
-          go : (n : ℕ) → Going f w out₀ out s n → 0 < n → out′ ≡ written w out (s .count) (closed f (s .first) (s .at) (next w (s .at))) → Going f w out₀ out′ (advanced f s (next w (s .at))) (n - 1)
+          go : (n : ℕ) → Going f w out₀ out s n → 0 < n → out′ ≡ written w out (s .count) (closedIn f (s .first) (s .at) (next w (s .at))) → Going f w out₀ out′ (advanced f s (next w (s .at))) (n - 1)
           go zero g more e = absurd (omega arith)
           go (suc k) g more e = rw sub-one (step-on k g out′ e)
 

@@ -1,10 +1,10 @@
 -- The laws of the list, over any yes/no answer.
 pub mod Samples
-pub mod Turn
+pub mod OneStep
 pub mod Records
 pub mod Counts
 pub mod Fits
-pub mod Step
+pub mod Advanced
 pub mod Going
 pub mod Listed
 pub mod Only

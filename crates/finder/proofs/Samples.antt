@@ -5,7 +5,7 @@ use native.Mathlib.Omega.{arith}
 use native.Mathlib.Nat.{zero-add, div-add-mod', mod-lt, div-le-self, suc-mul}
 use lib.ListN.{length}
 use Rattle.finder.specs.declared.Window.{Window}
-use Rattle.finder.specs.Samples.{Good, stepsOf, sampleAt, samplesFrom, samples}
+use Rattle.finder.specs.Samples.{lastEnd, longestStep, Good, stepsOf, sampleAt, samplesFrom, samples}
 use Rattle.finder.specs.Fits.{Rising, lastOf}
 use Rattle.finder.specs.State.{next}
 
@@ -30,9 +30,10 @@ module _ (w : Window) where
   samples-last i zero = ap (sampleAt w) (omega arith)
   samples-last i (suc k) = samples-last (suc i) k ∙ ap (sampleAt w) (omega arith)
 
-  pub steps-most : Good w → stepsOf w ≤ 2679448575
+  -- the steps fit 32 bits, however short they are
+  pub steps-fit : Good w → stepsOf w ≤ lastEnd + longestStep
   unfolding stepsOf
-  steps-most good = omega (arith, good .end, good .short, div-le-self (w .t1 - w .t0 + (w .step - 1)) (w .step))
+  steps-fit good = omega (arith, good .end, good .short, div-le-self (w .t1 - w .t0 + (w .step - 1)) (w .step))
 
   module _ (good : Good w) where
     pub sample-first : w .t0 ≡ sampleAt w 0

@@ -25,12 +25,12 @@ unfoldable pub edge : (ℕ → Bool) → ℕ → ℕ → Edge
 edge f a b = halve (sameAs f a) 20 a b 0
 
 -- change no→yes: high is a first
-unfoldable pub opened : (ℕ → Bool) → ℕ → ℕ → ℕ → ℕ
-opened f first a b = cond (not (f a) && f b) (edge f a b .high) first
+unfoldable pub firstAfter : (ℕ → Bool) → ℕ → ℕ → ℕ → ℕ
+firstAfter f first a b = cond (not (f a) && f b) (edge f a b .high) first
 
 -- yes→no: low is a last, of the interval that began at `first`
-unfoldable pub closed : (ℕ → Bool) → ℕ → ℕ → ℕ → List Span
-closed f first a b = cond (f a && not (f b)) (span first (edge f a b .low) ∷ []) []
+unfoldable pub closedIn : (ℕ → Bool) → ℕ → ℕ → ℕ → List Span
+closedIn f first a b = cond (f a && not (f b)) (span first (edge f a b .low) ∷ []) []
 
 -- a yes at t1, the last sample, closes one there
 abbrev pub ended : Bool → ℕ → ℕ → List Span
@@ -39,7 +39,7 @@ ended was first a = cond was (span first a ∷ []) []
 -- the intervals from the sample a on; where a says yes, the open one began at `first`
 unfoldable pub walk : (ℕ → Bool) → ℕ → ℕ → List ℕ → List Span
 walk f first a [] = ended (f a) first a
-walk f first a (b ∷ ts) = closed f first a b ++ walk f (opened f first a b) b ts
+walk f first a (b ∷ ts) = closedIn f first a b ++ walk f (firstAfter f first a b) b ts
 
 -- the list: a yes at t0 opens an interval there
 unfoldable pub listOf : (ℕ → Bool) → Window → List Span

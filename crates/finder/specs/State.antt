@@ -8,7 +8,7 @@ use Rattle.finder.specs.declared.State.{State}
 use Rattle.finder.specs.declared.Found.{Found}
 use Rattle.finder.specs.declared.Window.{Window}
 use Rattle.finder.specs.Samples.{lastEnd, longestStep, Good}
-use Rattle.finder.specs.Spans.{opened, closed, ended}
+use Rattle.finder.specs.Spans.{firstAfter, closedIn, ended}
 use Rattle.finder.specs.Asked.{middlesIn}
 
 -- a sample of a window that is let through
@@ -41,8 +41,8 @@ advanced f s b =
     record {
       at = b;
       was = f b;
-      first = opened f (s .first) (s .at) b;
-      count = s .count + length (closed f (s .first) (s .at) b);
+      first = firstAfter f (s .first) (s .at) b;
+      count = s .count + length (closedIn f (s .first) (s .at) b);
       asked = s .asked + suc (length (middlesIn f (s .at) b));
     }
 

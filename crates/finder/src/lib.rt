@@ -5,14 +5,14 @@ ghost use lib.ListN.{length};
 ghost use Rattle.geometry.specs.Ready.{Ready};
 ghost use Rattle.geometry.specs.Visible.{answerAt};
 ghost use Rattle.finder.specs.Samples.{Good, stepsOf};
-ghost use Rattle.finder.specs.Spans.{span, edge, closed, ended, listOf};
+ghost use Rattle.finder.specs.Spans.{span, edge, closedIn, ended, listOf};
 ghost use Rattle.finder.specs.Records.{flagsOf, written, foundOf, HasRoom};
 ghost use Rattle.finder.specs.State.{Sampled, next, Stretch, Few, Room, advanced, finished};
 use geometry::Orbit;
 use halving::Edge;
 use interval::Interval;
 
-// A job's window, in ms.
+// A job's number, and its window and step in ms.
 pub struct Window {
     pub job: u32,
     pub t0: u64,
@@ -28,7 +28,7 @@ pub struct Found {
 
 // The finder has come to the sample `at`, which answered `was`; where that is yes, the open interval began at `first`. So far it wrote
 // `count` intervals and asked `asked` instants.
-pub struct State {
+struct State {
     pub at: u64,
     pub was: bool,
     pub first: u64,
@@ -108,9 +108,9 @@ fn put(w: Window, out: &mut [u8], count: usize, first: u64, last: u64)
 // One step, to the sample b. From no to yes: the high neighbour is a first. From yes to no: the low one is a last.
 fn advance(t: &[u32], o: Orbit, question: u32, w: Window, out: &mut [u8], s: State, b: u64) -> State
     requires { ⌜ (Ready (now t) o) × (Stretch (answerAt o question) (s .at) b (s .was)) × (Few s) ⌝ }
-    requires { ⌜ Room (s .count) (length (closed (answerAt o question) (s .first) (s .at) b)) (now out) ⌝ }
+    requires { ⌜ Room (s .count) (length (closedIn (answerAt o question) (s .first) (s .at) b)) (now out) ⌝ }
     ensures { λ r. ⌜ r ≡ advanced (answerAt o question) s b ⌝ }
-    ensures { λ _. ⌜ now (out .exit) ≡ written w (now (out .entry)) (s .count) (closed (answerAt o question) (s .first) (s .at) b) ⌝ }
+    ensures { λ _. ⌜ now (out .exit) ≡ written w (now (out .entry)) (s .count) (closedIn (answerAt o question) (s .first) (s .at) b) ⌝ }
 {
     let yes = geometry::answer(t, o, question, b);
     if yes == s.was {

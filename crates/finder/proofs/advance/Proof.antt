@@ -2,8 +2,8 @@
 use native.Mathlib.Omega.{arith}
 use denote.Ref.{now}
 use Rattle.geometry.specs.Visible.{answerAt}
-use Rattle.finder.proofs.Turn.{found-most}
-use Rattle.finder.proofs.Step.{stays, stays-out, begins, begins-out, ends, ends-room, ends-out}
+use Rattle.finder.proofs.OneStep.{found-most}
+use Rattle.finder.proofs.Advanced.{agree-state, agree-out, begin-state, begin-out, end-state, end-room, end-out}
 use borrow.Author.Needs.{needs}
 use Rattle.finder.proofs.advance.Statement.{statement}
 use Rattle.finder.proofs.advance.Tie as tie
@@ -21,8 +21,8 @@ returns c =
     let f = answerAt (start .args .o) (start .args .question) in
     let was = start .pre .0 .1 .answered in
     let agree = c .before .if1 .taken in (
-      stays f (start .args .w) (start .args .s) (start .args .b) (asked .answer .result) was (asked .answer .ensures) agree,
-      stays-out f (start .args .w) (start .args .s) (start .args .b) (asked .answer .result) was (asked .answer .ensures) agree _,
+      agree-state f (start .args .w) (start .args .s) (start .args .b) (asked .answer .result) was (asked .answer .ensures) agree,
+      agree-out f (start .args .w) (start .args .s) (start .args .b) (asked .answer .result) was (asked .answer .ensures) agree _,
     )
 
 halve-requires : tie.Need-halve-requires
@@ -45,8 +45,8 @@ returns-2 c =
     let start = asked .before .before .before in
     let f = answerAt (start .args .o) (start .args .question) in
     let was = start .pre .0 .1 .answered in (
-      begins f (start .args .w) (start .args .s) (start .args .b) (asked .answer .result) was (asked .answer .ensures) (apart .if1 .left) (found .halve .result) (found .halve .ensures) (c .if2 .taken),
-      begins-out f (start .args .w) (start .args .s) (start .args .b) (asked .answer .result) was (asked .answer .ensures) (apart .if1 .left) (found .halve .result) (found .halve .ensures) (c .if2 .taken) _,
+      begin-state f (start .args .w) (start .args .s) (start .args .b) (asked .answer .result) was (asked .answer .ensures) (apart .if1 .left) (found .halve .result) (found .halve .ensures) (c .if2 .taken),
+      begin-out f (start .args .w) (start .args .s) (start .args .b) (asked .answer .result) was (asked .answer .ensures) (apart .if1 .left) (found .halve .result) (found .halve .ensures) (c .if2 .taken) _,
     )
 
 put-requires : tie.Need-put-requires
@@ -56,7 +56,7 @@ put-requires c κs =
     let apart = found .before in
     let asked = apart .before .before in
     let start = asked .before .before .before in
-    ends-room (answerAt (start .args .o) (start .args .question)) (start .args .w) (start .args .s) (start .args .b) (asked .answer .result) (start .pre .0 .1 .answered) (asked .answer .ensures) (apart .if1 .left) (found .halve .result) (found .halve .ensures) (no .if2 .left) (start .args .out .now) (start .pre .1)
+    end-room (answerAt (start .args .o) (start .args .question)) (start .args .w) (start .args .s) (start .args .b) (asked .answer .result) (start .pre .0 .1 .answered) (asked .answer .ensures) (apart .if1 .left) (found .halve .result) (found .halve .ensures) (no .if2 .left) (start .args .out .now) (start .pre .1)
 
 add-t17 : tie.Need-add-t17
 add-t17 c =
@@ -76,8 +76,8 @@ returns-3 c =
     let start = asked .before .before .before in
     let f = answerAt (start .args .o) (start .args .question) in
     let was = start .pre .0 .1 .answered in (
-      ends f (start .args .w) (start .args .s) (start .args .b) (asked .answer .result) was (asked .answer .ensures) (apart .if1 .left) (found .halve .result) (found .halve .ensures) (no .if2 .left),
-      ends-out f (start .args .w) (start .args .s) (start .args .b) (asked .answer .result) was (asked .answer .ensures) (apart .if1 .left) (found .halve .result) (found .halve .ensures) (no .if2 .left) _ _ (put .put .ensures),
+      end-state f (start .args .w) (start .args .s) (start .args .b) (asked .answer .result) was (asked .answer .ensures) (apart .if1 .left) (found .halve .result) (found .halve .ensures) (no .if2 .left),
+      end-out f (start .args .w) (start .args .s) (start .args .b) (asked .answer .result) was (asked .answer .ensures) (apart .if1 .left) (found .halve .result) (found .halve .ensures) (no .if2 .left) _ _ (put .put .ensures),
     )
 
 pub advance-spec : {M : Type 1} → statement M

@@ -4,7 +4,7 @@ use mathlib.Core.Path.{ap, _∙_}
 use native.Mathlib.Omega.{arith}
 use lib.Dec.{ltb}
 use Rattle.job.specs.Table.{noRoom}
-use Rattle.finder.proofs.Samples.{steps-most}
+use Rattle.finder.proofs.Samples.{steps-fit}
 use Rattle.job.proofs.Laws.{room-is}
 use borrow.Author.Needs.{needs}
 use Rattle.job.proofs.no_room.Statement.{statement}
@@ -14,10 +14,10 @@ steps-requires : tie.Need-steps-requires
 steps-requires c κs = search needs
 
 add-result : tie.Need-add-result
-add-result c = omega (arith, steps-most (c .before .args .w) (c .before .pre))
+add-result c = omega (arith, steps-fit (c .before .args .w) (c .before .pre))
 
 mul-result : tie.Need-mul-result
-mul-result c = omega (arith, steps-most (c .before .args .w) (c .before .pre))
+mul-result c = omega (arith, steps-fit (c .before .args .w) (c .before .pre))
 
 returns : tie.Need-returns
 unfolding noRoom

@@ -1,4 +1,4 @@
--- One step of the walk, by what its two ends answer: the end of the list that it closes or opens, and the instants that it asks.
+-- What one step closes, opens and asks, by the answers at its two ends.
 use Prim.Native.Nat.{ℕ, _≤_}
 use mathlib.Core.Path.{_≡_, refl, sym}
 use mathlib.Core.List.{[], _∷_}
@@ -7,7 +7,7 @@ use native.Mathlib.Omega.{arith}
 use lib.ListN.{length}
 use Rattle.halving.specs.declared.Edge.{Edge}
 use Rattle.halving.proofs.Laws.{counted, asked-middles}
-use Rattle.finder.specs.Spans.{span, sameAs, edge, closed, opened}
+use Rattle.finder.specs.Spans.{span, sameAs, edge, closedIn, firstAfter}
 use Rattle.finder.specs.Asked.{middlesIn}
 
 -- ---- two answers
@@ -33,29 +33,29 @@ not-and false = refl
 -- ---- what a step closes and opens
 
 module _ (f : ℕ → Bool) (first a b : ℕ) where
-  pub closed-same : f a ≡ f b → closed f first a b ≡ []
-  unfolding closed
+  pub closed-same : f a ≡ f b → closedIn f first a b ≡ []
+  unfolding closedIn
   closed-same e = rw (e, and-not (f b))
 
-  pub opened-same : f a ≡ f b → opened f first a b ≡ first
-  unfolding opened
-  opened-same e = rw (e, not-and (f b))
+  pub first-same : f a ≡ f b → firstAfter f first a b ≡ first
+  unfolding firstAfter
+  first-same e = rw (e, not-and (f b))
 
-  pub closed-ends : f a ≡ true → f b ≡ false → closed f first a b ≡ span first (edge f a b .low) ∷ []
-  unfolding closed
+  pub closed-ends : f a ≡ true → f b ≡ false → closedIn f first a b ≡ span first (edge f a b .low) ∷ []
+  unfolding closedIn
   closed-ends p q = rw (p, q)
 
-  pub opened-ends : f a ≡ true → f b ≡ false → opened f first a b ≡ first
-  unfolding opened
-  opened-ends p q = rw p
+  pub first-ends : f a ≡ true → f b ≡ false → firstAfter f first a b ≡ first
+  unfolding firstAfter
+  first-ends p q = rw p
 
-  pub closed-begins : f a ≡ false → f b ≡ true → closed f first a b ≡ []
-  unfolding closed
+  pub closed-begins : f a ≡ false → f b ≡ true → closedIn f first a b ≡ []
+  unfolding closedIn
   closed-begins p q = rw p
 
-  pub opened-begins : f a ≡ false → f b ≡ true → opened f first a b ≡ edge f a b .high
-  unfolding opened
-  opened-begins p q = rw (p, q)
+  pub first-begins : f a ≡ false → f b ≡ true → firstAfter f first a b ≡ edge f a b .high
+  unfolding firstAfter
+  first-begins p q = rw (p, q)
 
 -- ---- what a step asks beside its sample
 

@@ -6,7 +6,7 @@ use native.Mathlib.Nat.{zero-add, div-add-mod', mod-lt, div-le-self, suc-mul}
 use lib.ListN.{length}
 use Rattle.finder.specs.declared.Window.{Window}
 use Rattle.finder.specs.Samples.{lastEnd, longestStep, Good, stepsOf, sampleAt, samplesFrom, samples}
-use Rattle.finder.specs.Fits.{Rising, lastOf}
+use Rattle.finder.specs.Fits.{Rising, Short, lastOf}
 use Rattle.finder.specs.State.{next}
 
 module _ (w : Window) where
@@ -40,18 +40,28 @@ module _ (w : Window) where
     unfolding sampleAt
     sample-first = omega (arith, good .window)
 
-    -- samples in order, in steps that are not too long
+    -- samples in order
     rise-from : (i k : ℕ) → Rising (sampleAt w i) (samplesFrom w (suc i) k)
     unfolding samplesFrom
     rise-from i zero = tt
     rise-from i (suc k) =
         let after = sample-next i in
         let inside = sample-inside i in
-        (omega arith, omega (arith, good .short), rise-from (suc i) k)
+        (omega arith, rise-from (suc i) k)
 
     pub samples-rise : Rising (w .t0) (samples w)
     unfolding samples
     samples-rise = subst (λ (a : ℕ). Rising a (samplesFrom w 1 (stepsOf w))) (sym sample-first) (rise-from 0 (stepsOf w))
+
+    -- in steps that are not too long
+    short-from : (i k : ℕ) → Short (sampleAt w i) (samplesFrom w (suc i) k)
+    unfolding samplesFrom
+    short-from i zero = tt
+    short-from i (suc k) = let after = sample-next i in (omega (arith, good .short), short-from (suc i) k)
+
+    pub samples-short : Short (w .t0) (samples w)
+    unfolding samples
+    samples-short = subst (λ (a : ℕ). Short a (samplesFrom w 1 (stepsOf w))) (sym sample-first) (short-from 0 (stepsOf w))
 
     -- n steps reach t1
     pub sample-end : sampleAt w (stepsOf w) ≡ w .t1

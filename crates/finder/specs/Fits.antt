@@ -29,10 +29,15 @@ pub data Fits (f : ℕ → Bool) : ℕ → ℕ → List ℕ → List Span → Ty
   begins : {first a b e : ℕ} {ts : List ℕ} {l : List Span} → Changes f false true a b e → Fits f (e + 1) b ts l → Fits f first a (b ∷ ts) l
   ends : {first a b e : ℕ} {ts : List ℕ} {l : List Span} → Changes f true false a b e → Fits f first b ts l → Fits f first a (b ∷ ts) (span first e ∷ l)
 
--- samples in order, none of whose steps is too long
+-- the samples a and ts are in order
 abbrev pub Rising : ℕ → List ℕ → Type 0
 Rising a [] = Unit {0}
-Rising a (b ∷ ts) = (a ≤ b) × (b ≤ a + longestStep) × Rising b ts
+Rising a (b ∷ ts) = (a ≤ b) × Rising b ts
+
+-- none of their steps is too long for the halvings
+abbrev pub Short : ℕ → List ℕ → Type 0
+Short a [] = Unit {0}
+Short a (b ∷ ts) = (b ≤ a + longestStep) × Short b ts
 
 -- the last of the samples a and ts
 unfoldable pub lastOf : ℕ → List ℕ → ℕ
@@ -72,15 +77,20 @@ abbrev pub Follows : (ℕ → Bool) → (ℕ → Bool) → ℕ → List ℕ → 
 Follows f g a [] = g a ≡ f a
 Follows f g a (b ∷ ts) = Step f g a b × Follows f g b ts
 
--- an interval begins at t0, or at a change from no to yes
-abbrev pub Begun : (ℕ → Bool) → ℕ → ℕ → Type 0
-Begun f t0 t = (t ≡ t0) ⊎ ((e : ℕ) × (t ≡ e + 1) × (f e ≡ false) × (f t ≡ true))
+-- some step of the samples a and ts has it
+abbrev pub SomeStep : (ℕ → ℕ → Type 0) → ℕ → List ℕ → Type 0
+SomeStep P a [] = ⊥
+SomeStep P a (b ∷ ts) = P a b ⊎ SomeStep P b ts
 
--- it ends at t1, or at a change from yes to no
-abbrev pub Over : (ℕ → Bool) → ℕ → ℕ → Type 0
-Over f t1 t = (t ≡ t1) ⊎ ((f t ≡ true) × (f (t + 1) ≡ false))
+-- t is t0, or the yes behind a change in a step that goes from no to yes
+abbrev pub Begun : (ℕ → Bool) → ℕ → List ℕ → ℕ → Type 0
+Begun f t0 ts t = (t ≡ t0) ⊎ SomeStep (λ a b. (e : ℕ) × (t ≡ e + 1) × Changes f false true a b e) t0 ts
 
--- every interval does both
-abbrev pub Endpoints : (ℕ → Bool) → ℕ → ℕ → List Span → Type 0
-Endpoints f t0 t1 [] = Unit {0}
-Endpoints f t0 t1 (s ∷ l) = Begun f t0 (s .first) × Over f t1 (s .last) × Endpoints f t0 t1 l
+-- t is the last sample, or the yes before a change in a step that goes from yes to no
+abbrev pub Over : (ℕ → Bool) → ℕ → List ℕ → ℕ → Type 0
+Over f t0 ts t = (t ≡ lastOf t0 ts) ⊎ SomeStep (λ a b. Changes f true false a b t) t0 ts
+
+-- so each interval begins and ends
+abbrev pub Endpoints : (ℕ → Bool) → ℕ → List ℕ → List Span → Type 0
+Endpoints f t0 ts [] = Unit {0}
+Endpoints f t0 ts (s ∷ l) = Begun f t0 ts (s .first) × Over f t0 ts (s .last) × Endpoints f t0 ts l

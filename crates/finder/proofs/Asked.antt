@@ -3,8 +3,8 @@ use Prim.Native.Nat.{ℕ}
 use mathlib.Core.Path.{_≡_, refl, sym, ap, _∙_}
 use mathlib.Core.List.{List, [], _∷_}
 use mathlib.Core.Bool.{Bool, true, false, cond}
-use Rattle.halving.specs.Halving.{middlesOf}
-use Rattle.halving.proofs.Alike.{Alike, alike-both, alike}
+use Rattle.halving.specs.Halving.{middlesOf, Alike}
+use Rattle.halving.proofs.Alike.{alike-both, alike}
 use Rattle.finder.specs.declared.Window.{Window}
 use Rattle.finder.specs.Samples.{samples}
 use Rattle.finder.specs.Spans.{sameAs, edge, closedIn, firstAfter, ended, walk, listOf}

@@ -6,6 +6,7 @@ use mathlib.Core.List.{List, [], _∷_}
 use mathlib.Core.Bool.{Bool, true, false}
 use native.Mathlib.Omega.{arith}
 use native.Mathlib.Nat.{zero-add}
+use native.Mathlib.Decide.{decLe}
 use lib.ListN.{length, getD}
 use Rattle.finder.specs.declared.Window.{Window}
 use Rattle.finder.specs.Samples.{Good, stepsOf, sampleAt, samplesFrom, samples}
@@ -51,6 +52,14 @@ endpoints-at : (f : ℕ → Bool) (t0 : ℕ) (ts : List ℕ) (l : List Span) (j 
 endpoints-at f t0 ts [] j all h = absurd (omega arith)
 endpoints-at f t0 ts (s ∷ l) zero all h = (all .0, all .1)
 endpoints-at f t0 ts (s ∷ l) (suc j) all h = endpoints-at f t0 ts l j (all .2) (omega arith)
+
+-- a step whose ends agree holds no change
+pub still : {f g : ℕ → Bool} {a b : ℕ} → Step f g a b → f a ≡ f b → (t : ℕ) → a ≤ t → t ≤ b → g t ≡ f a
+still {f} {g} {a} {b} s same t p q = by (decLe t (s .e))
+  where
+    by : Dec (t ≤ s .e) → g t ≡ f a
+    by (yes h) = s .as-a t p h
+    by (no h) = s .as-b t (omega arith) q ∙ sym same
 
 module _ (w : Window) (good : Good w) (f : ℕ → Bool) where
   pub list-fits : Fits f (w .t0) (w .t0) (samples w) (listOf f w)

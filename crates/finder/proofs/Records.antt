@@ -8,7 +8,8 @@ use lib.Dec.{eqb}
 use lib.ListN.{length, getD, take, drop, length-append}
 use lib.Seq.{sets, drop-drop, take-at, drop-at}
 use Rattle.interval.specs.Record.{recordBytes}
-use Rattle.interval.proofs.Laws.{sets-append, length-record}
+use Rattle.interval.proofs.Laws.{length-record}
+use Rattle.words.proofs.Stores.{sets-append}
 use Rattle.finder.specs.declared.Window.{Window}
 use Rattle.finder.specs.Spans.{Span, span}
 use Rattle.finder.specs.Records.{flagsOf, intervalOf, recordsOf, written}

@@ -4,12 +4,7 @@ use mathlib.Core.Path.{_≡_, refl, ap}
 use mathlib.Core.List.{List, [], _∷_, _++_}
 use mathlib.Core.Bool.{Bool, true, false, cond}
 use lib.Dec.{ltb}
-use Rattle.halving.specs.Halving.{halve, middle, middlesOf}
-
--- g answers as f at each of the instants
-abbrev pub Alike : (ℕ → Bool) → (ℕ → Bool) → List ℕ → Type 0
-Alike f g [] = Unit {0}
-Alike f g (t ∷ ts) = (g t ≡ f t) × Alike f g ts
+use Rattle.halving.specs.Halving.{halve, middle, middlesOf, Alike}
 
 pub alike-both : (f g : ℕ → Bool) (ts us : List ℕ) → Alike f g (ts ++ us) → Alike f g ts × Alike f g us
 alike-both f g [] us h = (tt, h)

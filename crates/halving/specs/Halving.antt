@@ -1,5 +1,6 @@
 -- The search by halving (document 01, "Place in the orbit" and "The list"), over any yes/no answer.
 use Prim.Native.Nat.{ℕ, zero, suc, _+_, _/_}
+use mathlib.Core.Path.{_≡_}
 use mathlib.Core.Bool.{Bool, cond}
 use mathlib.Core.List.{List, [], _∷_}
 use lib.Dec.{ltb}
@@ -25,3 +26,8 @@ middlesOf moves (suc k) low high =
     let m = middle low high in
     let next = middlesOf moves k (cond (moves m) m low) (cond (moves m) high m) in
     cond (ltb (low + 1) high) (m ∷ next) []
+
+-- g answers as f at each of these points: for the law that a search is made of the answers at its middles
+abbrev pub Alike : (ℕ → Bool) → (ℕ → Bool) → List ℕ → Type 0
+Alike f g [] = Unit {0}
+Alike f g (t ∷ ts) = (g t ≡ f t) × Alike f g ts

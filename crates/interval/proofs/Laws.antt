@@ -1,23 +1,19 @@
 -- The record's bytes: four numbers one behind the other. Both round trips, through the laws of little-endian numbers.
-use Prim.Native.Nat.{ℕ, suc, _+_, _^_, _<_}
+use Prim.Native.Nat.{ℕ, _+_, _^_, _<_}
 use mathlib.Core.Path.{_≡_, refl, sym, ap, _∙_}
-use mathlib.Core.List.{List, [], _∷_, _++_, append-assoc, append-nil}
+use mathlib.Core.List.{List, [], _++_, append-assoc, append-nil}
 use native.Mathlib.Omega.{arith}
-use lib.ListN.{length, drop, set, length-append}
-use lib.Seq.{sets, sets-eq, drop-length, take-at, drop-at}
+use lib.ListN.{length, drop, length-append}
+use lib.Seq.{sets-eq, drop-length, take-at, drop-at}
 use borrow.Author.Tests.{eq-eqb, ne-eqb}
 use Rattle.words.specs.Little.{bytesOf, readOf, putOf, Bytes}
+use Rattle.words.proofs.Stores.{sets-append}
 use Rattle.words.proofs.Laws.{length-bytes, number-bytes, put-read}
 use Rattle.interval.specs.declared.Interval.{Interval}
 use Rattle.interval.specs.declared.Parsed.the-variants.{Record, NoRecord}
 use Rattle.interval.specs.Record.{recordBytes, recordOf, parsedOf, writeOf, Sized}
 
 -- ---- writing
-
--- bytes that are written one behind the other
-pub sets-append : (xs ys l : List ℕ) (i : ℕ) → sets l i (xs ++ ys) ≡ sets (sets l i xs) (i + length xs) ys
-sets-append [] ys l i = ap (λ (k : ℕ). sets l k ys) (omega arith)
-sets-append (x ∷ xs) ys l i = sets-append xs ys (set l i x) (suc i) ∙ ap (λ (k : ℕ). sets (sets (set l i x) (suc i) xs) k ys) (omega arith)
 
 -- four numbers put one behind the other are the record
 pub record-puts : (l : List ℕ) {l₁ l₂ l₃ l₄ : List ℕ} (at : ℕ) (r : Interval) → l₁ ≡ putOf 4 l at (r .job) → l₂ ≡ putOf 4 l₁ (at + 4) (r .flags) → l₃ ≡ putOf 8 l₂ (at + 8) (r .first) → l₄ ≡ putOf 8 l₃ (at + 16) (r .last) → l₄ ≡ writeOf l at r

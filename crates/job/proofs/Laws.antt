@@ -9,7 +9,7 @@ use native.Mathlib.Nat.{le-div-iff-mul-le, div-lt-iff-lt-mul, suc-mul}
 use borrow.Author.Tests.{ltb-true, ltb-false, leb-false, eqb-true, eqb-false, lt-ltb, le-ltb}
 use lib.Dec.{eqb, ltb, leb, lit≤}
 use Rattle.refusal.specs.Rows.{_then_, first, rowAt}
-use Rattle.refusal.specs.Refusal.{numberOf}
+use Rattle.refusal.specs.Refusal.{numberOf, fieldOf, zero, valueOf, bitsOf}
 use Rattle.refusal.specs.declared.Refusal.{Refusal}
 use Rattle.refusal.specs.declared.Refusal.the-variants as refusal
 use Rattle.refusal.specs.declared.Verdict.{Verdict}
@@ -116,3 +116,16 @@ number-most refusal.Step = lit≤ tt
 number-most refusal.Question = lit≤ tt
 number-most refusal.Room = lit≤ tt
 number-most refusal.Kepler = lit≤ tt
+
+-- of the refusals 1, 2 and 6 to 10 the table says: field 0, number 0.0
+pub else-returns : (r : Refusal) → (numberOf r ≡ 3 → ⊥) → (numberOf r ≡ 4 → ⊥) → (numberOf r ≡ 5 → ⊥) → (fieldOf r ≡ 0) × (valueOf r ≡ zero) × (bitsOf r ≡ 0)
+else-returns refusal.Length three four five = (refl, refl, refl)
+else-returns refusal.Word three four five = (refl, refl, refl)
+else-returns (refusal.NotFinite k x b) three four five = absurd (three refl)
+else-returns (refusal.OutOfRange k x) three four five = absurd (four refl)
+else-returns (refusal.TooClose d) three four five = absurd (five refl)
+else-returns refusal.Window three four five = (refl, refl, refl)
+else-returns refusal.Step three four five = (refl, refl, refl)
+else-returns refusal.Question three four five = (refl, refl, refl)
+else-returns refusal.Room three four five = (refl, refl, refl)
+else-returns refusal.Kepler three four five = (refl, refl, refl)

@@ -1,14 +1,14 @@
 -- What `reply` writes: the list in a part of the buffer, then the closing record behind its records.
-use Prim.Native.Nat.{ℕ, suc, _+_, _-_, _*_, _≤_, _<_}
-use mathlib.Core.Path.{_≡_, refl, sym, ap, _∙_}
+use Prim.Native.Nat.{ℕ, _+_, _-_, _*_, _≤_, _<_}
+use mathlib.Core.Path.{_≡_, refl, _∙_}
 use mathlib.Core.Bool.{Bool, true, false, cond}
-use mathlib.Core.List.{List, [], _∷_, _++_}
+use mathlib.Core.List.{List, [], _++_}
 use native.Mathlib.Nat.{zero-add}
 use native.Mathlib.Omega.{arith}
 use borrow.Author.Tests.{leb-true, le-leb, lt-leb}
 use lib.Dec.{leb}
-use lib.ListN.{length, take, drop, set, length-append, length-set, take-append-drop}
-use lib.Seq.{sets, length-sets, length-take-le, set-append-left}
+use lib.ListN.{length, take, drop, length-append}
+use lib.Seq.{sets, length-sets, length-take-le}
 use Rattle.refusal.specs.Rows.{first, rowAt}
 use Rattle.refusal.specs.declared.Verdict.{Verdict}
 use Rattle.refusal.specs.declared.Verdict.the-variants as verdict
@@ -16,7 +16,8 @@ use Rattle.refusal.proofs.Order.{passed-exactly}
 use Rattle.elements.specs.Reading.{fieldRows}
 use Rattle.interval.specs.declared.Interval.{Interval}
 use Rattle.interval.specs.Record.{recordBytes, writeOf}
-use Rattle.interval.proofs.Laws.{sets-append, length-record}
+use Rattle.interval.proofs.Laws.{length-record}
+use Rattle.words.proofs.Stores.{sets-append, sets-front}
 use Rattle.finder.specs.declared.Window.{Window}
 use Rattle.finder.specs.Spans.{listOf}
 use Rattle.finder.specs.Records.{foundOf, roomOf}
@@ -27,16 +28,6 @@ use Rattle.job.specs.Outcome.{intervalsOf, answersIn, outcomeFrom, recor
 use Rattle.job.specs.Reply.{jobOf, closingOf, replyOf}
 use Rattle.job.specs.declared.Outcome.{Outcome}
 use Rattle.job.proofs.Laws.{roomy}
-
--- ---- stores in a part
-
-sets-left : (xs a b : List ℕ) (i : ℕ) → i + length xs ≤ length a → sets (a ++ b) i xs ≡ sets a i xs ++ b
-sets-left [] a b i h = refl
-sets-left (x ∷ xs) a b i h = rw (set-append-left a b i x (omega arith)) (sets-left xs (set a i x) b (suc i) (simp length-set (omega arith)))
-
-sets-part : (xs l : List ℕ) (k : ℕ) → length xs ≤ k → k ≤ length l → sets (take k l) 0 xs ++ drop k l ≡ sets l 0 xs
-sets-part xs l k h room =
-    sym (sets-left xs (take k l) (drop k l) 0 (rw (length-take-le k l room) (omega arith))) ∙ ap (λ (z : List ℕ). sets z 0 xs) (take-append-drop k l)
 
 -- ---- the interval records
 
@@ -89,7 +80,7 @@ module _ (s out : List ℕ) (long : 24 ≤ length out) (o : Outcome) (n : ℕ) (
   -- the buffer after the list
   listed : new ++ drop (length out - 24) out ≡ sets out 0 (recordsIn s (length out - 24))
   unfolding listAfter
-  listed = rw (left, lent) (sets-part (recordsIn s (length out - 24)) out (length out - 24) (records-fit s (length out - 24)) (omega arith))
+  listed = rw (left, lent) (sets-front (recordsIn s (length out - 24)) out (length out - 24) (records-fit s (length out - 24)) (omega arith))
 
   pub room-for : 24 * n + 24 ≤ length (new ++ drop (length out - 24) out)
   room-for = rw listed (rw length-sets room-left)

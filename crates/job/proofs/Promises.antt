@@ -1,8 +1,14 @@
 -- What is promised of one job: each part a theorem about the contract of `job::list`, for every record's bytes and every lent list.
--- docs/PROMISES.md leads here. The proofs are a line or two each: they cite the laws that show them.
+-- docs/PROMISES.md leads here. The proofs are a line or two each: they cite the laws that show them. The statements' words stand in
+--   outcomeOf, listAfter, intervalsOf, askedOf, answersIn   job/specs/Outcome.antt          tableOf, windowOf, questionOf       job/specs/Table.antt
+--   Gives, Passes, rowAt                                   refusal/specs/Rows.antt         numberOf, fieldOf, valueOf, bitsOf  refusal/specs/Refusal.antt
+--   floatOf, bitsIn, Returns, Accepted                     elements/specs                  hiddenAt, upAt                      geometry/specs
+--   stepsOf, sampleAt                                      finder/specs/Samples.antt       listOf                              finder/specs/Spans.antt
+--   instantsOf, changesOf                                  finder/specs/Asked.antt         recordsOf, intervalOf, roomForAny   finder/specs/Records.antt
+--   Fits, InOrder, listed, Changes                         finder/specs/Fits.antt          recordBytes, parsedOf               interval/specs/Record.antt
 use Prim.Native.Nat.{ℕ, suc, _+_, _*_, _≤_, _<_}
-use mathlib.Core.Path.{_≡_, refl, sym, ap, _∙_}
-use mathlib.Core.Logic.{_↔_, _⊎_}
+use mathlib.Core.Path.{_≡_, refl, sym, ap, subst, _∙_}
+use mathlib.Core.Logic.{_↔_, _⊎_, _≢_}
 use mathlib.Core.Bool.{Bool, true, false, not, _&&_}
 use mathlib.Core.List.{List, _++_}
 use native.Mathlib.Omega.{arith}
@@ -16,8 +22,8 @@ use lib.Ieee.{Float}
 use lib.Ieee.Positive.{positive}
 use lib.Ieee.Scale.{finite}
 use Rattle.words.specs.Little.{Bytes}
-use Rattle.halving.proofs.Alike.{Alike}
-use Rattle.refusal.specs.Refusal.{orderOf}
+use Rattle.halving.specs.Halving.{Alike}
+use Rattle.refusal.specs.Refusal.{numberOf, fieldOf, zero, valueOf, bitsOf, orderOf}
 use Rattle.refusal.specs.Rows.{rowAt, Gives, Passes}
 use Rattle.refusal.specs.declared.Refusal.{Refusal}
 use Rattle.refusal.specs.declared.Refusal.the-variants as refusal
@@ -28,17 +34,17 @@ use Rattle.elements.specs.Reading.{elementsOf, Returns}
 use Rattle.elements.specs.Accepted.{Accepted}
 use Rattle.geometry.specs.Hidden.{hiddenAt}
 use Rattle.geometry.specs.Visible.{upAt, visibleAt, answerAt}
-use Rattle.interval.specs.Record.{parsedOf}
+use Rattle.interval.specs.Record.{recordBytes, parsedOf}
 use Rattle.interval.specs.declared.Parsed.the-variants.{Record}
 use Rattle.finder.specs.declared.Window.{Window}
 use Rattle.finder.specs.Samples.{mostSteps, Good, stepsOf, sampleAt, samples}
 use Rattle.finder.specs.Spans.{Span, span, listOf}
 use Rattle.finder.specs.Asked.{instantsOf, changesOf}
 use Rattle.finder.specs.Records.{intervalOf, recordsOf, foundOf, roomForAny}
-use Rattle.finder.specs.Fits.{Fits, InOrder, listed, Step, Endpoints}
+use Rattle.finder.specs.Fits.{Changes, Fits, InOrder, listed}
 use Rattle.finder.proofs.Samples.{sample-first, sample-end}
 use Rattle.finder.proofs.Counts.{instants-most}
-use Rattle.finder.proofs.Listed.{list-fits, list-in-order, list-sample, list-step, list-endpoints}
+use Rattle.finder.proofs.Listed.{list-fits, list-in-order, list-sample, list-step, still, list-first, list-last, list-opens, list-closes}
 use Rattle.finder.proofs.Asked.{list-alike}
 use Rattle.job.specs.Table.{windowOf, questionOf, orbitWith, tableOf}
 use Rattle.job.specs.Outcome.{intervalsOf, askedOf, answersIn, outcomeOf, listAfter}
@@ -46,7 +52,9 @@ use Rattle.job.specs.declared.Outcome.{Outcome}
 use Rattle.job.specs.declared.Outcome.the-variants.{Listed, Refused}
 use Rattle.job.proofs.Exactly as exactly
 use Rattle.job.proofs.Roomy as roomy
-use Rattle.job.proofs.Written.{records-then-rest, record-is}
+use Rattle.job.proofs.Laws.{else-returns}
+use Rattle.job.proofs.Written.{records-then-rest}
+use Rattle.job.proofs.Written as written
 use Rattle.job.proofs.list.Kinds as list
 use Rattle.job.proofs.list.Reads as list-reads
 
@@ -57,12 +65,24 @@ pub record Job (s old : List ℕ) (o : Outcome) (new : List ℕ) : Type 0 where
   pub answer : o ≡ outcomeOf s (length old)
   pub bytes : new ≡ listAfter s old
 
--- it is what the contract of `job::list` says, as the check reads it off the source: no call is left out, since the function requires nothing
+-- this is what the contract of `job::list` says of every call that ends, as the check reads it off the source
 pub by-contract : (κs : Lfts 2) (a : Dens κs list.ps) (o : resT list.r κs .Denot) (x : AtExit (endedOf 2 list.ps list.r) κs)
     → list-reads.Post κs a o x → Job (now (a .0)) (now (a .1 .0)) o (now (x .1 .0))
 by-contract κs a o x p = record { answer = p .0; bytes = p .1 }
 
--- In what follows, of one job: the room in bytes, the window with its step, the yes or no at each instant, and the list of intervals.
+-- and it is required of no call that anything holds before it: any bytes, any room
+pub requires-nothing : (κs : Lfts 2) (a : Dens κs list.ps) → list-reads.Pre κs a
+requires-nothing κs a = tt
+
+-- for the proofs below: what was answered, by the definition; and a window that was let through
+module _ {s old : List ℕ} {o : Outcome} {new : List ℕ} (job : Job s old o new) where
+  told : {p : Outcome} → o ≡ p → outcomeOf s (length old) ≡ p
+  told h = sym (job .answer) ∙ h
+
+  good : {n k : ℕ} → o ≡ Listed n k → Good (windowOf s)
+  good h = exactly.listed-good s (length old) (told h)
+
+-- In what follows, of one job: its room in bytes, its window and step, the yes or no at each instant, and the list of intervals.
 module _ (s old : List ℕ) (o : Outcome) (new : List ℕ) (job : Job s old o new) where
   abbrev room : ℕ
   room = length old
@@ -92,47 +112,47 @@ module _ (s old : List ℕ) (o : Outcome) (new : List ℕ) (job : Job s old o ne
   unfolding foundOf
   list-or-refusal = rw (job .answer) (exactly.list-or-refusal s room)
 
-  -- of the ten refusals nine are ever given: Kepler's search always settles
+  -- refusal 10 is never given: Kepler's search always settles
   pub kepler-never : o ≡ Refused refusal.Kepler → ⊥
-  kepler-never h = exactly.kepler-never s room (sym (job .answer) ∙ h)
+  kepler-never h = exactly.kepler-never s room (told job h)
 
   -- refusal 9 is never given where there is room for 2,049 intervals
   pub room-never : roomForAny ≤ room → o ≡ Refused refusal.Room → ⊥
-  room-never enough h = roomy.room-never s room enough (sym (job .answer) ∙ h)
+  room-never enough h = roomy.room-never s room enough (told job h)
 
-  -- NaN and infinity are refused by field: the first field k that is one, with its bits
+  -- NaN and infinity are refused by field: the first field k that is one
   pub not-finite-refused : (k : ℕ) → 1 ≤ k → k ≤ 13 → ((j : ℕ) → j < 1 + k → rowAt (tableOf s room) j ≡ Passed)
       → finite (floatOf s k) ≡ false → o ≡ Refused (refusal.NotFinite k (floatOf s k) (bitsIn s k))
   not-finite-refused k least most before h = job .answer ∙ exactly.not-finite-refused s room k least most before h
 
-  -- and so are values out of range: the first field k that is finite and does not pass, with itself
+  -- and so are values out of range: the first field k that is finite and whose row does not pass
   pub out-of-range-refused : (k : ℕ) → 1 ≤ k → k ≤ 13 → ((j : ℕ) → j < 1 + k → rowAt (tableOf s room) j ≡ Passed)
       → finite (floatOf s k) ≡ true → (rowAt (tableOf s room) (1 + k) ≡ Passed → ⊥) → o ≡ Refused (refusal.OutOfRange k (floatOf s k))
   out-of-range-refused k least most before h out = job .answer ∙ exactly.out-of-range-refused s room k least most before h out
 
   -- none gets through: what is listed has every field in its range, and the closest distance above R
   pub listed-accepted : {n k : ℕ} → o ≡ Listed n k → Accepted (elementsOf s)
-  listed-accepted h = exactly.listed-accepted s room (sym (job .answer) ∙ h)
+  listed-accepted h = exactly.listed-accepted s room (told job h)
 
-  module _ (r : Refusal) (h : o ≡ Refused r) where
-    given : outcomeOf s room ≡ Refused r
-    given = sym (job .answer) ∙ h
-
-    -- a refusal that names a field returns that field's own number, bit for bit (that s are bytes is what a slice of u8 holds)
-    pub refused-returns : Bytes s → Returns s r
-    refused-returns b = exactly.refused-returns s room r b given
-
-    -- it returns 0 intervals and 0 instants asked
-    pub refused-counts : (intervalsOf o ≡ 0) × (askedOf o ≡ 0)
-    refused-counts = rw h (refl, refl)
-
-    -- and the lent list keeps every byte
-    pub refused-keeps : new ≡ old
-    refused-keeps = job .bytes ∙ exactly.refused-keeps s old r given
+  -- a refusal of a field returns that field's own number, bit for bit. `Bytes s` says that each element of s is below 256, as every u8 is
+  pub refused-returns : (r : Refusal) → o ≡ Refused r → Bytes s → Returns s r
+  refused-returns r h b = exactly.refused-returns s room r b (told job h)
 
   -- refusal 5 returns the closest distance, a finite number above 0
   pub refused-distance : (d : Float) → o ≡ Refused (refusal.TooClose d) → (d ≡ closestOf (floatOf s 1) (floatOf s 2)) × T (positive d)
-  refused-distance d h = exactly.refused-distance s room d (sym (job .answer) ∙ h)
+  refused-distance d h = exactly.refused-distance s room d (told job h)
+
+  -- every other refusal returns field 0, number 0.0
+  pub refused-else : (r : Refusal) → o ≡ Refused r → (numberOf r ≡ 3 → ⊥) → (numberOf r ≡ 4 → ⊥) → (numberOf r ≡ 5 → ⊥) → (fieldOf r ≡ 0) × (valueOf r ≡ zero) × (bitsOf r ≡ 0)
+  refused-else r h = else-returns r
+
+  -- each returns 0 intervals and 0 instants asked
+  pub refused-counts : (r : Refusal) → o ≡ Refused r → (intervalsOf o ≡ 0) × (askedOf o ≡ 0)
+  refused-counts r h = rw h (refl, refl)
+
+  -- and the lent list keeps every byte
+  pub refused-keeps : (r : Refusal) → o ≡ Refused r → new ≡ old
+  refused-keeps r h = job .bytes ∙ exactly.refused-keeps s old r (told job h)
 
   -- ---- 2. The answer at each instant is the rules', and the list is the one that the rules and the halving give
 
@@ -146,33 +166,28 @@ module _ (s old : List ℕ) (o : Outcome) (new : List ℕ) (job : Job s old o ne
   unfolding answerAt visibleAt
   asks-visible q t = rw q
 
+  -- n intervals were listed, and k instants asked
   module _ {n k : ℕ} (h : o ≡ Listed n k) where
-    is-listed : outcomeOf s room ≡ Listed n k
-    is-listed = sym (job .answer) ∙ h
-
-    abbrev good : Good w
-    good = exactly.listed-good s room is-listed
-
-    -- nothing but these two questions is listed
+    -- the question was one of these two
     pub listed-question : (questionOf s ≡ 1) ⊎ (questionOf s ≡ 2)
-    listed-question = exactly.listed-question s room is-listed
+    listed-question = exactly.listed-question s room (told job h)
 
-    -- the numbers answered are those of the list and of the instants asked
+    -- n is the length of the list that the rules give
     pub intervals-is : n ≡ length l
     unfolding foundOf
-    intervals-is = exactly.listed-intervals s room is-listed
+    intervals-is = exactly.listed-intervals s room (told job h)
 
-    pub count-is : k ≡ length (instantsOf f w)
-    unfolding foundOf
-    count-is = exactly.listed-asked s room is-listed
-
-    -- the records of the list are written from byte 0, and every byte behind them stays
+    -- its records are written from byte 0, and every byte behind them stays
     pub list-is : new ≡ recordsOf w l ++ drop (24 * n) old
-    list-is = job .bytes ∙ records-then-rest s old is-listed
+    list-is = job .bytes ∙ records-then-rest s old (told job h)
 
-    -- so the bytes, read as interval records, are the list
+    -- record i has the bytes of interval i
+    pub record-bytes : (i : ℕ) → i < n → take 24 (drop (24 * i) new) ≡ recordBytes (intervalOf w (getD l i (span 0 0)))
+    record-bytes i below = ap (λ (x : List ℕ). take 24 (drop (24 * i) x)) (job .bytes) ∙ written.record-bytes s old (told job h) i below
+
+    -- and reads as interval i
     pub reads-as : Bytes s → (i : ℕ) → i < n → parsedOf (take 24 (drop (24 * i) new)) ≡ Record (intervalOf w (getD l i (span 0 0)))
-    reads-as b i below = ap (λ (x : List ℕ). parsedOf (take 24 (drop (24 * i) x))) (job .bytes) ∙ record-is s old is-listed b i below
+    reads-as b i below = ap (λ (x : List ℕ). parsedOf (take 24 (drop (24 * i) x))) (job .bytes) ∙ written.record-is s old (told job h) i below b
 
     -- the list is made of the answers at the instants asked, and no others: any answer that is alike there has the same list
     pub only-asked : (g : ℕ → Bool) → Alike f g (instantsOf f w) → (listOf g w ≡ l) × (instantsOf g w ≡ instantsOf f w)
@@ -180,37 +195,65 @@ module _ (s old : List ℕ) (o : Outcome) (new : List ℕ) (job : Job s old o ne
 
     -- ---- 3. Whatever the answers are
 
-    -- the first sample is t0 and the last is t1: no piece of the window is left over
+    -- the first sample is t0
     pub first-sample : sampleAt w 0 ≡ w .t0
-    first-sample = sym (sample-first w good)
+    first-sample = sym (sample-first w (good job h))
 
+    -- the last is t1: no piece of the window is left over
     pub last-sample : sampleAt w (stepsOf w) ≡ w .t1
-    last-sample = sample-end w good
+    last-sample = sample-end w (good job h)
 
-    -- the list fits its samples, which is the whole of what follows
+    -- the list fits its samples; the rest, but for the counts, follows from that
     pub fits : Fits f (w .t0) (w .t0) (samples w) l
-    fits = list-fits w good f
+    fits = list-fits w (good job h) f
 
     -- intervals in order, inside the window, at least one instant between neighbours
     pub in-order : InOrder (w .t0) l (w .t1)
-    in-order = list-in-order w good f
+    in-order = list-in-order w (good job h) f
 
     -- a sample lies in an interval exactly if its answer is yes
     pub at-samples : (i : ℕ) → i ≤ stepsOf w → listed l (sampleAt w i) ≡ f (sampleAt w i)
-    at-samples = list-sample w good f
+    at-samples = list-sample w (good job h) f
 
-    -- each step whose ends differ holds exactly one change, between two neighbouring milliseconds that differ in that direction; no other step holds one
-    pub in-steps : (i : ℕ) → i < stepsOf w → Step f (listed l) (sampleAt w i) (sampleAt w (suc i))
-    in-steps = list-step w good f
+    -- a step whose ends differ holds exactly one change: the list is as its low end up to e and as its high end from e + 1 on, and so the answers are at these two
+    pub one-change : (i : ℕ) → i < stepsOf w → let a = sampleAt w i in let b = sampleAt w (suc i) in f a ≢ f b
+        → (e : ℕ) × (a ≤ e) × (e < b) × (f e ≡ f a) × (f (e + 1) ≡ f b) × ((t : ℕ) → a ≤ t → t ≤ e → listed l t ≡ f a) × ((t : ℕ) → e < t → t ≤ b → listed l t ≡ f b)
+    one-change i below d =
+        let s = list-step w (good job h) f i below in
+        let before = s .differs d in
+        (s .e, s .from, before, s .low, s .high before, s .as-a, s .as-b)
 
-    -- every other endpoint is a bound of the window
-    pub endpoints : Endpoints f (w .t0) (w .t1) l
-    endpoints = list-endpoints w good f
+    -- no other step holds one
+    pub no-change : (i : ℕ) → i < stepsOf w → let a = sampleAt w i in let b = sampleAt w (suc i) in f a ≡ f b → (t : ℕ) → a ≤ t → t ≤ b → listed l t ≡ f a
+    no-change i below = still (list-step w (good job h) f i below)
 
-    -- the count of instants asked is at most the samples and 20 a changed step
+    -- every first is t0, or the yes behind a change in a step whose ends differ
+    pub each-first : (j : ℕ) → j < n → let t = getD l j (span 0 0) .first in
+        (t ≡ w .t0) ⊎ ((i : ℕ) × (i < stepsOf w) × ((e : ℕ) × (t ≡ e + 1) × Changes f false true (sampleAt w i) (sampleAt w (suc i)) e))
+    each-first j below = list-first w (good job h) f j (subst (λ (m : ℕ). j < m) intervals-is below)
+
+    -- every last is t1, or the yes before one
+    pub each-last : (j : ℕ) → j < n → let t = getD l j (span 0 0) .last in
+        (t ≡ w .t1) ⊎ ((i : ℕ) × (i < stepsOf w) × Changes f true false (sampleAt w i) (sampleAt w (suc i)) t)
+    each-last j below = list-last w (good job h) f j (subst (λ (m : ℕ). j < m) intervals-is below)
+
+    -- a yes at t0 opens the first interval there
+    pub yes-at-start : f (w .t0) ≡ true → (0 < n) × (getD l 0 (span 0 0) .first ≡ w .t0)
+    yes-at-start yes′ = let k = list-opens w (good job h) f yes′ in (subst (λ (m : ℕ). 0 < m) (sym intervals-is) (k .0), k .1)
+
+    -- a yes at t1 closes one there
+    pub yes-at-end : f (w .t1) ≡ true → (j : ℕ) × (j < n) × (getD l j (span 0 0) .last ≡ w .t1)
+    yes-at-end yes′ = let k = list-closes w (good job h) f yes′ in (k .0, subst (λ (m : ℕ). k .0 < m) (sym intervals-is) (k .1), k .2)
+
+    -- the count is the number of the instants asked
+    pub count-is : k ≡ length (instantsOf f w)
+    unfolding foundOf
+    count-is = exactly.listed-asked s room (told job h)
+
+    -- at most the samples and 20 a changed step
     pub count-most : k ≤ stepsOf w + 1 + 20 * changesOf f w
     count-most = omega (arith, count-is, instants-most f w)
 
-    -- in a window of at most 4,096 steps
+    -- of which there are at most 4,096
     pub steps-most : stepsOf w ≤ mostSteps
-    steps-most = exactly.listed-few s room is-listed
+    steps-most = exactly.listed-few s room (told job h)

@@ -50,7 +50,7 @@ module _ (s old : List ℕ) {n k : ℕ} (h : outcomeOf s (length old) ≡ Listed
       ∙ sets-eq bytes old 0 fit
       ∙ ap (λ (m : ℕ). bytes ++ drop m old) (zero-add (length bytes) ∙ counts)
 
-  module _ (b : Bytes s) (i : ℕ) (below : i < n) where
+  module _ (i : ℕ) (below : i < n) where
     abbrev one : Span
     one = getD l i (span 0 0)
 
@@ -58,9 +58,9 @@ module _ (s old : List ℕ) {n k : ℕ} (h : outcomeOf s (length old) ≡ Listed
     unfolding foundOf
     inside = subst (λ (m : ℕ). i < m) (listed-intervals s (length old) h) below
 
-    sized : Sized (intervalOf (windowOf s) one)
+    sized : Bytes s → Sized (intervalOf (windowOf s) one)
     unfolding intervalOf windowOf
-    sized =
+    sized b =
         let w = windowOf s in
         let whole : WholeRecord s = listed-whole s (length old) h in
         let good = listed-good s (length old) h in
@@ -72,13 +72,16 @@ module _ (s old : List ℕ) {n k : ℕ} (h : outcomeOf s (length old) ≡ Listed
           last-fits = omega (arith, at .2, good .end);
         }
 
-    -- record i is interval i
-    pub record-is : parsedOf (take 24 (drop (24 * i) (listAfter s old))) ≡ Record (intervalOf (windowOf s) one)
-    record-is =
+    -- record i has the bytes of interval i
+    pub record-bytes : take 24 (drop (24 * i) (listAfter s old)) ≡ recordBytes (intervalOf (windowOf s) one)
+    record-bytes =
         let rest = drop (24 * n) old in
         let enough : 24 ≤ length (drop (24 * i) bytes) = rw (length-drop, counts) (omega arith) in
-        ap (λ (x : List ℕ). parsedOf (take 24 (drop (24 * i) x))) records-then-rest
-        ∙ ap (λ (x : List ℕ). parsedOf (take 24 x)) (drop-append-le (24 * i) bytes rest (omega (arith, counts)))
-        ∙ ap parsedOf (take-append-le 24 (drop (24 * i) bytes) rest enough)
-        ∙ ap parsedOf (record-at (windowOf s) l i inside)
-        ∙ parsed (intervalOf (windowOf s) one) sized
+        ap (λ (x : List ℕ). take 24 (drop (24 * i) x)) records-then-rest
+        ∙ ap (take 24) (drop-append-le (24 * i) bytes rest (omega (arith, counts)))
+        ∙ take-append-le 24 (drop (24 * i) bytes) rest enough
+        ∙ record-at (windowOf s) l i inside
+
+    -- so it reads as that interval
+    pub record-is : Bytes s → parsedOf (take 24 (drop (24 * i) (listAfter s old))) ≡ Record (intervalOf (windowOf s) one)
+    record-is b = ap parsedOf record-bytes ∙ parsed (intervalOf (windowOf s) one) (sized b)

@@ -47,7 +47,7 @@ recordsFrom (verdict.Refused r) f w = []
 abbrev pub answersOf : Elements → ℕ → ℕ → Bool
 answersOf e q = answerAt (orbitWith e) q
 
--- by the first of some rows that applies
+-- the outcome by the first of some rows that applies, and the bytes of its records
 abbrev pub outcomeBy : List Verdict → Elements → ℕ → Window → Outcome
 outcomeBy rows e q w = outcomeFrom (first rows) (answersOf e q) w
 
@@ -60,11 +60,11 @@ answersIn s = answersOf (elementsOf s) (questionOf s)
 
 -- the outcome, with room for so many bytes
 unfoldable pub outcomeOf : List ℕ → ℕ → Outcome
-outcomeOf s room = outcomeFrom (first (tableOf s room)) (answersIn s) (windowOf s)
+outcomeOf s room = outcomeBy (tableOf s room) (elementsOf s) (questionOf s) (windowOf s)
 
 -- the bytes of its interval records, none for a refusal
 unfoldable pub recordsIn : List ℕ → ℕ → List ℕ
-recordsIn s room = recordsFrom (first (tableOf s room)) (answersIn s) (windowOf s)
+recordsIn s room = recordsBy (tableOf s room) (elementsOf s) (questionOf s) (windowOf s)
 
 -- the list afterwards: only the interval records are written, from byte 0
 unfoldable pub listAfter : List ℕ → List ℕ → List ℕ

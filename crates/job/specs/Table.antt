@@ -69,18 +69,19 @@ keplerRow e w = when (not (settlesAt (orbitWith e) (w .t0))) refusal.Kepler
 
 -- ---- the table
 
--- 10, of a job with the elements e
+-- 1 to 10, of a record and a list with room for so many bytes
+unfoldable pub tableOf : List ℕ → ℕ → List Verdict
+tableOf s room =
+    let w = windowOf s in
+    recordRows s ++ (windowRow w ∷ stepRow w ∷ questionRow (questionOf s) ∷ roomRow w room ∷ keplerRow (elementsOf s) w ∷ [])
+
+-- ---- its last rows, for the contracts of private functions
+
 abbrev pub rowsFromSearch : Elements → Window → List Verdict
 rowsFromSearch e w = keplerRow e w ∷ []
 
--- 8 to 10
 abbrev pub rowsFromQuestion : Elements → Window → ℕ → ℕ → List Verdict
 rowsFromQuestion e w q room = questionRow q ∷ roomRow w room ∷ rowsFromSearch e w
 
--- 6 to 10
 abbrev pub rowsFromWindow : Elements → Window → ℕ → ℕ → List Verdict
 rowsFromWindow e w q room = windowRow w ∷ stepRow w ∷ rowsFromQuestion e w q room
-
--- 1 to 10, of a record and a list with room for so many bytes
-unfoldable pub tableOf : List ℕ → ℕ → List Verdict
-tableOf s room = recordRows s ++ rowsFromWindow (elementsOf s) (windowOf s) (questionOf s) room

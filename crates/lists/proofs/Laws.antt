@@ -1,19 +1,19 @@
--- The laws of the program's buffers: a piece, stores in the rest of a buffer, and the answers one behind the other.
+-- The laws of the program's buffers: a piece, and the replies one behind the other.
 use Prim.Native.Nat.{ℕ, zero, suc, _+_, _-_, _*_, _≤_, _<_, min}
 use mathlib.Core.Path.{_≡_, refl, sym, ap, _∙_}
 use mathlib.Core.Bool.{Bool, true, false}
-use mathlib.Core.List.{List, [], _∷_, _++_, append-assoc, append-nil}
+use mathlib.Core.List.{List, [], _∷_, _++_}
 use native.Mathlib.Omega.{arith}
 use native.Mathlib.Nat.{zero-add}
 use native.Mathlib.Numerals.{add-one}
 use lib.Dec.{leb}
 use borrow.Author.Tests.{leb-true, leb-false}
 use lib.ListN.{length, getD, set, take, drop, length-append, length-drop, length-take}
-use lib.Seq.{sets, sets-eq, length-sets, length-take-le, take-all, take-suc, drop-length, drop-drop, getD-drop, getD-append-add}
+use lib.Seq.{sets, sets-eq, length-sets, length-take-le, take-all, take-suc, getD-drop, getD-append-add}
 use Rattle.job.specs.Reply.{roomForReply, replyOf}
 use Rattle.job.proofs.Parts.{reply-fits}
 use Rattle.job.proofs.Roomy.{reply-roomy}
-use Rattle.interval.proofs.Laws.{sets-append}
+use Rattle.words.proofs.Stores.{sets-append, sets-rest}
 use Rattle.lists.specs.Replies.{pieceOf, answerOf, repliesOf, Room}
 
 -- ---- a piece
@@ -30,18 +30,6 @@ piece-is n s end e = by (leb (136 * n + 136) (length s)) refl
         let short : length (drop (136 * n) s) ≤ 136 = simp length-drop (omega (arith, leb-false (136 * n + 136) (length s) t)) in
         let all : length (drop (136 * n) s) ≤ end - 136 * n = simp length-drop (omega (arith, leb-false (136 * n + 136) (length s) t)) in
         take-all (end - 136 * n) (drop (136 * n) s) all ∙ sym (take-all 136 (drop (136 * n) s) short)
-
--- ---- stores in the rest of a buffer
-
--- what was stored from byte 0 of the rest on was stored from `used` on
-rest-sets : (xs l ys : List ℕ) (used : ℕ) → used + length xs ≤ length l → ys ≡ sets (take (length l - used) (drop used l)) 0 xs → take used l ++ (ys ++ drop (length l - used) (drop used l)) ≡ sets l used xs
-rest-sets xs l ys used h e =
-    let end : used + (length l - used) ≡ length l = omega arith in
-    let rest : take (length l - used) (drop used l) ≡ drop used l = take-all (length l - used) (drop used l) (simp length-drop (omega arith)) in
-    let none : drop (length l - used) (drop used l) ≡ [] = rw (drop-drop (length l - used) used l, end) (drop-length l) in
-    let fits : 0 + length xs ≤ length (drop used l) = simp length-drop (omega arith) in
-    rw (e, rest, none, append-nil (sets (drop used l) 0 xs), sets-eq xs (drop used l) 0 fits, sets-eq xs l used h, zero-add (length xs), drop-drop (length xs) used l)
-    (sym (append-assoc (take used l) xs (drop (used + length xs) l)))
 
 -- ---- one answer
 
@@ -68,7 +56,7 @@ module _ (s out : List ℕ) (n end used r : ℕ) (new : List ℕ) (h : Room used
   pub answer-stands : (used + r ≡ used + length (answerOf (pieceOf n s))) × (take used out ++ (new ++ drop (length out - used) (drop used out)) ≡ sets out used (answerOf (pieceOf n s)))
   answer-stands = (
     ap (λ (k : ℕ). used + k) length-is,
-    rest-sets (answerOf (pieceOf n s)) out new used (omega (arith, answer-fits (pieceOf n s))) (left ∙ ap (λ (xs : List ℕ). sets (take (length out - used) (drop used out)) 0 xs) answer-is),
+    sets-rest (answerOf (pieceOf n s)) out new used (omega (arith, answer-fits (pieceOf n s))) (left ∙ ap (λ (xs : List ℕ). sets (take (length out - used) (drop used out)) 0 xs) answer-is),
   )
 
 -- ---- the answers one behind the other

@@ -3,7 +3,7 @@ ghost use mathlib.Core.Path.{_≡_};
 ghost use Rattle.words.specs.Little.{Holds};
 ghost use Rattle.interval.specs.Record.{writeOf, parsedOf};
 
-// Both instants belong to it.
+// An interval of a list, both of whose instants belong to it; or what closes a job's intervals.
 pub struct Interval {
     pub job: u32,
     pub flags: u32,

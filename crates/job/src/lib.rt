@@ -25,7 +25,15 @@ pub enum Outcome {
     Refused(Refusal),
 }
 
-// The window that stands behind a record's fields.
+// The last end of a window, in ms: 31 days.
+const LAST_END: u64 = 2_678_400_000;
+
+// The longest step, in ms.
+const LONGEST_STEP: u64 = 1_048_576;
+
+const MOST_STEPS: u64 = 4096;
+
+// A record's job number, window and step.
 fn window(s: &[u8]) -> Window
     requires { ⌜ WholeRecord (now s) ⌝ }
     ensures { λ r. ⌜ r ≡ windowOf (now (s .entry)) ⌝ }
@@ -44,7 +52,7 @@ fn window(s: &[u8]) -> Window
 fn bad_window(w: Window) -> bool
     ensures { λ r. ⌜ r ≡ badWindow w ⌝ }
 {
-    w.t1 <= w.t0 || 2678400000 < w.t1
+    w.t1 <= w.t0 || LAST_END < w.t1
 }
 
 // A step of 0, too long a step, or more than 4,096 of them. No division, so that a step of 0 does no harm.
@@ -54,13 +62,13 @@ fn bad_step(w: Window) -> bool
     if w.step == 0 {
         return true;
     }
-    if 1048576 < w.step {
+    if LONGEST_STEP < w.step {
         return true;
     }
     if w.t1 <= w.t0 {
         return false;
     }
-    4096 * w.step < w.t1 - w.t0
+    MOST_STEPS * w.step < w.t1 - w.t0
 }
 
 // Rows 6 and 7.

@@ -14,7 +14,7 @@ use Rattle.job.specs.Reply.{roomForReply, replyOf}
 use Rattle.job.proofs.Parts.{reply-fits}
 use Rattle.job.proofs.Roomy.{reply-roomy}
 use Rattle.words.proofs.Stores.{sets-append, sets-rest}
-use Rattle.lists.specs.Replies.{pieceOf, answerOf, repliesOf, Room}
+use Rattle.lists.specs.Replies.{pieceOf, roomyReply, repliesOf, Room}
 
 -- ---- a piece
 
@@ -31,37 +31,37 @@ piece-is n s end e = by (leb (136 * n + 136) (length s)) refl
         let all : length (drop (136 * n) s) ≤ end - 136 * n = simp length-drop (omega (arith, leb-false (136 * n + 136) (length s) t)) in
         take-all (end - 136 * n) (drop (136 * n) s) all ∙ sym (take-all 136 (drop (136 * n) s) short)
 
--- ---- one answer
+-- ---- one reply
 
 -- it fits where there is room for any
-answer-fits : (s : List ℕ) → length (answerOf s) ≤ roomForReply
-answer-fits s = reply-fits s roomForReply
+roomy-fits : (s : List ℕ) → length (roomyReply s) ≤ roomForReply
+roomy-fits s = reply-fits s roomForReply
 
--- piece n of s was answered in the rest of `out`: `new` stands there, of which r bytes are the answer's
+-- piece n of s was replied to in the rest of `out`: `new` stands there, of which r bytes are the reply
 module _ (s out : List ℕ) (n end used r : ℕ) (new : List ℕ) (h : Room used out) (e : end ≡ min (136 * n + 136) (length s))
     (told : r ≡ length (replyOf (take (end - 136 * n) (drop (136 * n) s)) (length (take (length out - used) (drop used out)))))
     (left : new ≡ sets (take (length out - used) (drop used out)) 0 (replyOf (take (end - 136 * n) (drop (136 * n) s)) (length (take (length out - used) (drop used out))))) where
   room : roomForReply ≤ length (take (length out - used) (drop used out))
   room = simp (length-take, length-drop) (omega arith)
 
-  answer-is : replyOf (take (end - 136 * n) (drop (136 * n) s)) (length (take (length out - used) (drop used out))) ≡ answerOf (pieceOf n s)
-  answer-is = rw (piece-is n s end e) (reply-roomy (pieceOf n s) (length (take (length out - used) (drop used out))) room)
+  reply-is : replyOf (take (end - 136 * n) (drop (136 * n) s)) (length (take (length out - used) (drop used out))) ≡ roomyReply (pieceOf n s)
+  reply-is = rw (piece-is n s end e) (reply-roomy (pieceOf n s) (length (take (length out - used) (drop used out))) room)
 
-  length-is : r ≡ length (answerOf (pieceOf n s))
-  length-is = told ∙ ap length answer-is
+  length-is : r ≡ length (roomyReply (pieceOf n s))
+  length-is = told ∙ ap length reply-is
 
-  pub answer-ends : used + r ≤ length out
-  answer-ends = omega (arith, length-is, answer-fits (pieceOf n s))
+  pub reply-ends : used + r ≤ length out
+  reply-ends = omega (arith, length-is, roomy-fits (pieceOf n s))
 
-  pub answer-stands : (used + r ≡ used + length (answerOf (pieceOf n s))) × (take used out ++ (new ++ drop (length out - used) (drop used out)) ≡ sets out used (answerOf (pieceOf n s)))
-  answer-stands = (
+  pub reply-stands : (used + r ≡ used + length (roomyReply (pieceOf n s))) × (take used out ++ (new ++ drop (length out - used) (drop used out)) ≡ sets out used (roomyReply (pieceOf n s)))
+  reply-stands = (
     ap (λ (k : ℕ). used + k) length-is,
-    sets-rest (answerOf (pieceOf n s)) out new used (omega (arith, answer-fits (pieceOf n s))) (left ∙ ap (λ (xs : List ℕ). sets (take (length out - used) (drop used out)) 0 xs) answer-is),
+    sets-rest (roomyReply (pieceOf n s)) out new used (omega (arith, roomy-fits (pieceOf n s))) (left ∙ ap (λ (xs : List ℕ). sets (take (length out - used) (drop used out)) 0 xs) reply-is),
   )
 
--- ---- the answers one behind the other
+-- ---- the replies one behind the other
 
--- the answers to n pieces stand in `out`, which was `old`, in its first `used` bytes
+-- the replies to n pieces stand in `out`, which was `old`, in its first `used` bytes
 pub record Stand (n : ℕ) (s old out : List ℕ) (used : ℕ) : Type 0 where
   pub counted : used ≡ length (repliesOf n s)
   pub stored : out ≡ sets old 0 (repliesOf n s)
@@ -97,16 +97,16 @@ module _ {n : ℕ} {s old out : List ℕ} {used : ℕ} (stand : Stand n s old ou
       by (suc k) e = omega arith
 
   -- one more
-  pub stand-more : {out′ : List ℕ} {used′ : ℕ} → Room used out → used′ ≡ used + length (answerOf (pieceOf n s)) → out′ ≡ sets out used (answerOf (pieceOf n s)) → Stand (n + 1) s old out′ used′
+  pub stand-more : {out′ : List ℕ} {used′ : ℕ} → Room used out → used′ ≡ used + length (roomyReply (pieceOf n s)) → out′ ≡ sets out used (roomyReply (pieceOf n s)) → Stand (n + 1) s old out′ used′
   unfolding repliesOf
   stand-more room u o =
       let before = repliesOf n s in
-      let last = answerOf (pieceOf n s) in
+      let last = roomyReply (pieceOf n s) in
       rw add-one
       (record {
         counted = u ∙ rw (stand .counted) (sym (length-append before last));
         stored = o ∙ rw (stand .counted, stand .stored) (sym (rw zero-add at (sets-append before last old 0)));
-        inside = omega (arith, u, stand-long, answer-fits (pieceOf n s));
+        inside = omega (arith, u, stand-long, roomy-fits (pieceOf n s));
       })
 
 -- ---- bytes that are moved to the start

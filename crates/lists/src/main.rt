@@ -5,17 +5,17 @@ ghost use mathlib.Core.Path.{_≡_};
 ghost use lib.ListN.{length};
 ghost use lib.Seq.{sets};
 ghost use Rattle.io.specs.Counts.{Counts};
-ghost use Rattle.lists.specs.Replies.{pieceOf, answerOf, repliesOf, Begins, Pieces, Room};
+ghost use Rattle.lists.specs.Replies.{pieceOf, roomyReply, repliesOf, Begins, Pieces, Room};
 ghost use Rattle.lists.specs.Buffer.{tailOf, Filled, Kept};
 use libc::STDIN_FILENO;
 use libc::STDOUT_FILENO;
 
 const RECORD: usize = 136;
 
-// 2,049 intervals and the closing record: the most that one record is answered with
+// 2,049 intervals and the closing record: the longest reply to a record
 const ROOM: usize = 49200;
 
-// How many pieces were answered, and in how many bytes.
+// How many pieces were replied to, and in how many bytes.
 struct Batch {
     pieces: usize,
     used: usize,
@@ -28,18 +28,18 @@ fn least(a: usize, b: usize) -> usize
     if a < b { a } else { b }
 }
 
-// The answer to piece n of `src`, behind the `used` bytes of `out`; how many are in use then.
-fn answered(src: &[u8], n: usize, out: &mut [u8], used: usize) -> usize
+// The reply to piece n of `src`, behind the `used` bytes of `out`; how many are in use then.
+fn put_reply(src: &[u8], n: usize, out: &mut [u8], used: usize) -> usize
     requires { ⌜ (Begins n (now src)) × (Room used (now out)) ⌝ }
-    ensures { λ r. ⌜ r ≡ used + length (answerOf (pieceOf n (now (src .entry)))) ⌝ }
-    ensures { λ _. ⌜ now (out .exit) ≡ sets (now (out .entry)) used (answerOf (pieceOf n (now (src .entry)))) ⌝ }
+    ensures { λ r. ⌜ r ≡ used + length (roomyReply (pieceOf n (now (src .entry)))) ⌝ }
+    ensures { λ _. ⌜ now (out .exit) ≡ sets (now (out .entry)) used (roomyReply (pieceOf n (now (src .entry)))) ⌝ }
 {
     let at = RECORD * n;
     let end = least(at + RECORD, src.len());
     used + job::reply(&src[at..end], &mut out[used..])
 }
 
-// The answers to the first pieces of `src`, one behind the other from byte 0 of `out`, while there is room for any answer.
+// The replies to the first pieces of `src`, one behind the other from byte 0 of `out`, while there is room for any reply.
 fn replies(src: &[u8], out: &mut [u8]) -> Batch
     requires { ⌜ (Begins 0 (now src)) × (Room 0 (now out)) ⌝ }
     ensures { λ r. ⌜ (Pieces (r .pieces) (now (src .entry))) × (Counts (r .used) (now (out .exit))) ⌝ }
@@ -49,7 +49,7 @@ fn replies(src: &[u8], out: &mut [u8]) -> Batch
     let mut n = 0;
     let mut used = 0;
     while RECORD * n < src.len() && ROOM <= out.len() - used {
-        used = answered(src, n, out, used);
+        used = put_reply(src, n, out, used);
         n += 1;
     }
     Batch { pieces: n, used }
@@ -65,7 +65,7 @@ fn written(bytes: &[u8]) -> bool {
 }
 
 // Answers every piece of `src`, by way of `out`; false where a write failed.
-fn answer(src: &[u8], out: &mut [u8]) -> bool
+fn reply_all(src: &[u8], out: &mut [u8]) -> bool
     requires { ⌜ Room 0 (now out) ⌝ }
 {
     let mut at = 0;
@@ -96,7 +96,7 @@ fn keep(buf: &mut [u8], filled: usize) -> usize
     tail
 }
 
-// One read behind the `kept` bytes of a record that has not come whole, and the answers to those that have; whether to go on.
+// One read behind the `kept` bytes of a record that has not come whole, and the replies to those that have; whether to go on.
 fn turn(buf: &mut [u8], kept: &mut usize, out: &mut [u8]) -> bool
     requires { ⌜ (Kept (now kept) (now buf)) × (Room 0 (now out)) ⌝ }
     ensures { λ _. ⌜ Kept (now (kept .exit)) (now (buf .exit)) ⌝ }
@@ -108,12 +108,12 @@ fn turn(buf: &mut [u8], kept: &mut usize, out: &mut [u8]) -> bool
         return false;
     }
     if got == 0 {
-        answer(&buf[..from], out);
+        reply_all(&buf[..from], out);
         return false;
     }
     let filled = from + io::count(got, &buf[from..]);
     let whole = filled - filled % RECORD;
-    if !answer(&buf[..whole], out) {
+    if !reply_all(&buf[..whole], out) {
         return false;
     }
     *kept = keep(buf, filled);
@@ -131,7 +131,7 @@ fn run(buf: &mut [u8], out: &mut [u8])
     }
 }
 
-// The buffers: 480 records, and their answers.
+// The buffers: 480 records, and the replies.
 fn main() {
     let mut buf = [0u8; 65280];
     let mut out = [0u8; 65536];

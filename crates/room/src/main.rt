@@ -5,7 +5,7 @@ use libc::STDIN_FILENO;
 use libc::STDOUT_FILENO;
 
 // A number and a blank.
-fn print(n: u64) {
+fn print_number(n: u64) {
     io::print_decimal(STDOUT_FILENO, n);
     io::write_all(STDOUT_FILENO, b" ");
 }
@@ -15,13 +15,13 @@ fn print_outcome(o: Outcome) {
     match o {
         Outcome::Listed { intervals, asked } => {
             io::write_all(STDOUT_FILENO, b"listed ");
-            print(intervals as u64);
-            print(asked);
+            print_number(intervals as u64);
+            print_number(asked);
         }
         Outcome::Refused(r) => {
             io::write_all(STDOUT_FILENO, b"refused ");
-            print(refusal::number(r) as u64);
-            print(refusal::field(r) as u64);
+            print_number(refusal::number(r) as u64);
+            print_number(refusal::field(r) as u64);
         }
     }
 }
@@ -43,7 +43,7 @@ fn print_bytes(list: &[u8]) {
 
 // One job's outcome, and its list afterwards.
 fn show(s: &[u8], list: &mut [u8]) {
-    print(list.len() as u64);
+    print_number(list.len() as u64);
     print_outcome(job::list(s, list));
     print_bytes(list);
 }

@@ -23,8 +23,8 @@ mul-loop c = search needs
 sub-if1 : tie.Need-sub-if1 Inv-loop μ-loop
 sub-if1 c = stand-fit (c .before .loop .inv .0)
 
-answered-requires : tie.Need-answered-requires Inv-loop μ-loop
-answered-requires c κs = (search needs, stand-room (c .before .before .before .loop .inv .0) (c .before .if1 .taken))
+put-reply-requires : tie.Need-put-reply-requires Inv-loop μ-loop
+put-reply-requires c κs = (search needs, stand-room (c .before .before .before .loop .inv .0) (c .before .if1 .taken))
 
 add-n : tie.Need-add-n Inv-loop μ-loop
 add-n c = search needs
@@ -36,7 +36,7 @@ loop-again : tie.Need-loop-again Inv-loop μ-loop
 loop-again c =
     let t = c .before .before in
     let stand = t .before .before .before .before .loop .inv .0 in
-    (stand-more stand (stand-room stand (t .before .before .if1 .taken)) (t .answered .ensures .0) (t .answered .ensures .1), search needs)
+    (stand-more stand (stand-room stand (t .before .before .if1 .taken)) (t .put-reply .ensures .0) (t .put-reply .ensures .1), search needs)
 
 same-length : tie.Need-same-length Inv-loop μ-loop
 same-length c = stand-long (c .before .before .loop .inv .0)
@@ -63,7 +63,7 @@ replies-spec =
     loop-holds
     mul-loop
     sub-if1
-    answered-requires
+    put-reply-requires
     add-n
     loop-less
     loop-again

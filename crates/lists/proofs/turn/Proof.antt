@@ -28,14 +28,14 @@ same-length c = search needs
 returns : tie.Need-returns
 returns c = search needs
 
-slice-reshare-prefix-answer : tie.Need-slice-reshare-prefix-answer
-slice-reshare-prefix-answer c = search needs
+slice-reshare-prefix-reply-all : tie.Need-slice-reshare-prefix-reply-all
+slice-reshare-prefix-reply-all c = search needs
 
-slice-aggregate-answer : tie.Need-slice-aggregate-answer
-slice-aggregate-answer c = front _ _ (search needs)
+slice-aggregate-reply-all : tie.Need-slice-aggregate-reply-all
+slice-aggregate-reply-all c = front _ _ (search needs)
 
-answer-requires : tie.Need-answer-requires
-answer-requires c κs = search needs
+reply-all-requires : tie.Need-reply-all-requires
+reply-all-requires c κs = search needs
 
 same-length-2 : tie.Need-same-length-2
 same-length-2 c = search needs
@@ -64,14 +64,14 @@ add-filled c = search needs
 sub-whole : tie.Need-sub-whole
 sub-whole c = search needs
 
-slice-reshare-prefix-answer-2 : tie.Need-slice-reshare-prefix-answer-2
-slice-reshare-prefix-answer-2 c = search needs
+slice-reshare-prefix-reply-all-2 : tie.Need-slice-reshare-prefix-reply-all-2
+slice-reshare-prefix-reply-all-2 c = search needs
 
-slice-aggregate-answer-2 : tie.Need-slice-aggregate-answer-2
-slice-aggregate-answer-2 c = front _ _ (search needs)
+slice-aggregate-reply-all-2 : tie.Need-slice-aggregate-reply-all-2
+slice-aggregate-reply-all-2 c = front _ _ (search needs)
 
-answer-requires-2 : tie.Need-answer-requires-2
-answer-requires-2 c κs = search needs
+reply-all-requires-2 : tie.Need-reply-all-requires-2
+reply-all-requires-2 c κs = search needs
 
 same-length-4 : tie.Need-same-length-4
 same-length-4 c = search needs
@@ -106,9 +106,9 @@ turn-spec =
     fail-requires
     same-length
     returns
-    slice-reshare-prefix-answer
-    slice-aggregate-answer
-    answer-requires
+    slice-reshare-prefix-reply-all
+    slice-aggregate-reply-all
+    reply-all-requires
     same-length-2
     same-length-3
     returns-2
@@ -118,9 +118,9 @@ turn-spec =
     count-requires
     add-filled
     sub-whole
-    slice-reshare-prefix-answer-2
-    slice-aggregate-answer-2
-    answer-requires-2
+    slice-reshare-prefix-reply-all-2
+    slice-aggregate-reply-all-2
+    reply-all-requires-2
     same-length-4
     same-length-5
     returns-3

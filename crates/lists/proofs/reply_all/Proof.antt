@@ -1,11 +1,11 @@
--- `lists::answer` meets its contract, which asks that each batch has room. The measure is the bytes that are left; a batch answers one piece at least.
+-- `lists::reply_all` meets its contract, which asks that each batch has room. The measure is the bytes that are left; a batch answers one piece at least.
 use Prim.Native.Nat.{_-_}
 use mathlib.Core.Path.{_≡_}
 use native.Mathlib.Omega.{arith}
 use borrow.Author.Needs.{needs}
 use lib.ListN.{length, length-take, length-drop}
-use Rattle.lists.proofs.answer.Statement.{statement}
-use Rattle.lists.proofs.answer.Tie as tie
+use Rattle.lists.proofs.reply_all.Statement.{statement}
+use Rattle.lists.proofs.reply_all.Tie as tie
 
 abbrev Inv-loop : tie.InvT-loop
 Inv-loop src out₀ at₀ out at = length out ≡ length out₀
@@ -61,8 +61,8 @@ same-length-2 c = search needs
 returns-2 : tie.Need-returns-2 Inv-loop μ-loop
 returns-2 c = search needs
 
-pub answer-spec : {M : Type 1} → statement M
-answer-spec =
+pub reply-all-spec : {M : Type 1} → statement M
+reply-all-spec =
     tie.close
     (tie.spec
     Inv-loop

@@ -1,9 +1,9 @@
--- `lists::answered` meets its contract: the piece is lent up to its end, and its answer is stored in the rest of `out`.
-use Rattle.lists.proofs.Laws.{answer-ends, answer-stands}
+-- `lists::put_reply` meets its contract: the piece is lent up to its end, and its answer is stored in the rest of `out`.
+use Rattle.lists.proofs.Laws.{reply-ends, reply-stands}
 use native.Mathlib.Omega.{arith}
 use borrow.Author.Needs.{needs}
-use Rattle.lists.proofs.answered.Statement.{statement}
-use Rattle.lists.proofs.answered.Tie as tie
+use Rattle.lists.proofs.put_reply.Statement.{statement}
+use Rattle.lists.proofs.put_reply.Tie as tie
 
 mul-at : tie.Need-mul-at
 mul-at c = search needs
@@ -39,7 +39,7 @@ add-result : tie.Need-add-result
 add-result c =
     let t = c .before .before in
     let a = t .before .before .before .before .before .before .args in
-    let h = answer-ends (a .src .now) (a .out .now) (a .n) _ (a .used) (t .reply .result) _ (search needs) (t .before .before .before .least .ensures) (t .reply .ensures .0) (t .reply .ensures .1) in
+    let h = reply-ends (a .src .now) (a .out .now) (a .n) _ (a .used) (t .reply .result) _ (search needs) (t .before .before .before .least .ensures) (t .reply .ensures .0) (t .reply .ensures .1) in
     omega arith
 
 same-length : tie.Need-same-length
@@ -49,10 +49,10 @@ returns : tie.Need-returns
 returns c =
     let t = c .before .before in
     let a = t .before .before .before .before .before .before .args in
-    answer-stands (a .src .now) (a .out .now) (a .n) _ (a .used) (t .reply .result) _ (search needs) (t .before .before .before .least .ensures) (t .reply .ensures .0) (t .reply .ensures .1)
+    reply-stands (a .src .now) (a .out .now) (a .n) _ (a .used) (t .reply .result) _ (search needs) (t .before .before .before .least .ensures) (t .reply .ensures .0) (t .reply .ensures .1)
 
-pub answered-spec : {M : Type 1} → statement M
-answered-spec =
+pub put-reply-spec : {M : Type 1} → statement M
+put-reply-spec =
     tie.close
     (tie.spec
     mul-at

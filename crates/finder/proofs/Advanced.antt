@@ -11,7 +11,7 @@ use Rattle.finder.specs.declared.Window.{Window}
 use Rattle.finder.specs.Spans.{span, edge, closedIn, ended}
 use Rattle.finder.specs.Asked.{middlesIn}
 use Rattle.finder.specs.Records.{recordsOf, written}
-use Rattle.finder.specs.State.{Room, advanced, finished}
+use Rattle.finder.specs.State.{RoomFor, advanced, finished}
 use Rattle.finder.proofs.OneStep.{beq-true, closed-same, first-same, closed-ends, first-ends, closed-begins, first-begins, middles-same, middles-differ}
 
 -- two answers that differ, of which one is yes
@@ -78,7 +78,7 @@ module _ (f : ℕ → Bool) (w : Window) (s : State) (b : ℕ) (yes : Bool) (at-
       unfolding advanced
       end-state = rw (closes, first-ends f (s .first) (s .at) b from-yes to-no, ← counted) cc
 
-      pub end-room : (out : List ℕ) → Room (s .count) (length (closedIn f (s .first) (s .at) b)) out → Room (s .count) 1 out
+      pub end-room : (out : List ℕ) → RoomFor (s .count) (length (closedIn f (s .first) (s .at) b)) out → RoomFor (s .count) 1 out
       end-room out h = rw closes at h
 
       pub end-out : (out out′ : List ℕ) → out′ ≡ written w out (s .count) (span (s .first) (e .low) ∷ []) → out′ ≡ written w out (s .count) (closedIn f (s .first) (s .at) b)
@@ -90,7 +90,7 @@ module _ (w : Window) (s : State) where
   unfolding finished
   close-state p = rw p
 
-  pub close-room : (out : List ℕ) → s .was ≡ true → Room (s .count) (length (ended (s .was) (s .first) (s .at))) out → Room (s .count) 1 out
+  pub close-room : (out : List ℕ) → s .was ≡ true → RoomFor (s .count) (length (ended (s .was) (s .first) (s .at))) out → RoomFor (s .count) 1 out
   close-room out p h = rw p at h
 
   pub close-out : s .was ≡ true → (out out′ : List ℕ) → out′ ≡ written w out (s .count) (span (s .first) (s .at) ∷ []) → out′ ≡ written w out (s .count) (ended (s .was) (s .first) (s .at))

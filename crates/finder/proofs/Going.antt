@@ -13,7 +13,7 @@ use Rattle.finder.specs.Samples.{Good, stepsOf, sampleAt, samplesFrom, s
 use Rattle.finder.specs.Spans.{closedIn, firstAfter, ended, walk, listOf}
 use Rattle.finder.specs.Asked.{middlesIn, askedAfter, instantsOf}
 use Rattle.finder.specs.Records.{recordsOf, written, foundOf, roomOf, HasRoom}
-use Rattle.finder.specs.State.{Sampled, next, Stretch, Few, Room, advanced, finished}
+use Rattle.finder.specs.State.{Sampled, next, Stretch, Few, RoomFor, advanced, finished}
 use Rattle.finder.proofs.Samples.{sample-next, sample-first, sample-inside, steps-fit}
 use Rattle.finder.proofs.Records.{written-both}
 use Rattle.finder.proofs.Counts.{list-most, instants-few}
@@ -88,7 +88,7 @@ module _ (f : ℕ → Bool) (w : Window) (out₀ : List ℕ) (good : Good w) whe
       to-count : s .count + (length (closedIn f (s .first) (s .at) b) + length (walk f (firstAfter f (s .first) (s .at) b) b rest)) ≡ length (listOf f w)
       to-count = rw (← length-append (closedIn f (s .first) (s .at) b) (walk f (firstAfter f (s .first) (s .at) b) b rest), ← to-come) (g .counted)
 
-      step-room : HasRoom w out₀ → Room (s .count) (length (closedIn f (s .first) (s .at) b)) out
+      step-room : HasRoom w out₀ → RoomFor (s .count) (length (closedIn f (s .first) (s .at) b)) out
       unfolding roomOf
       step-room h = omega (arith, to-count, g .long, list-most f w)
 
@@ -112,10 +112,10 @@ module _ (f : ℕ → Bool) (w : Window) (out₀ : List ℕ) (good : Good w) whe
 
     -- the same where the steps left are counted down
     module _ (left : ℕ) (g : Going f w out₀ out s left) (more : 0 < left) where
-      pub going-room : HasRoom w out₀ → (b : ℕ) → b ≡ next w (s .at) → Room (s .count) (length (closedIn f (s .first) (s .at) b)) out
+      pub going-room : HasRoom w out₀ → (b : ℕ) → b ≡ next w (s .at) → RoomFor (s .count) (length (closedIn f (s .first) (s .at) b)) out
       going-room room b here = rw here (go left g more room)
         where
-          go : (n : ℕ) → Going f w out₀ out s n → 0 < n → HasRoom w out₀ → Room (s .count) (length (closedIn f (s .first) (s .at) (next w (s .at)))) out
+          go : (n : ℕ) → Going f w out₀ out s n → 0 < n → HasRoom w out₀ → RoomFor (s .count) (length (closedIn f (s .first) (s .at) (next w (s .at)))) out
           go zero g more = absurd (omega arith)
           go (suc k) g more = step-room k g
 
@@ -144,7 +144,7 @@ module _ (f : ℕ → Bool) (w : Window) (out₀ : List ℕ) (good : Good w) whe
           go zero g none = refl
           go (suc k) g none = absurd (omega arith)
 
-      pub end-room : HasRoom w out₀ → Room (s .count) (length (ended (s .was) (s .first) (s .at))) out
+      pub end-room : HasRoom w out₀ → RoomFor (s .count) (length (ended (s .was) (s .first) (s .at))) out
       unfolding roomOf
       end-room h = omega (arith, ap length last-is, g .counted, g .long, list-most f w)
 

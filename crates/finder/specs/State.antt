@@ -32,8 +32,8 @@ abbrev pub Few : State → Type 0
 Few s = s .asked < 1099511627776
 
 -- room for n records behind `count` records
-abbrev pub Room : ℕ → ℕ → List ℕ → Type 0
-Room count n out = 24 * (count + n) ≤ length out
+abbrev pub RoomFor : ℕ → ℕ → List ℕ → Type 0
+RoomFor count n out = 24 * (count + n) ≤ length out
 
 -- the state after the step to the sample b
 unfoldable pub advanced : (ℕ → Bool) → State → ℕ → State

@@ -7,7 +7,7 @@ ghost use Rattle.geometry.specs.Visible.{answerAt};
 ghost use Rattle.finder.specs.Samples.{Good, stepsOf};
 ghost use Rattle.finder.specs.Spans.{span, edge, closedIn, ended, listOf};
 ghost use Rattle.finder.specs.Records.{flagsOf, written, foundOf, HasRoom};
-ghost use Rattle.finder.specs.State.{Sampled, next, Stretch, Few, Room, advanced, finished};
+ghost use Rattle.finder.specs.State.{Sampled, next, Stretch, Few, RoomFor, advanced, finished};
 use geometry::Orbit;
 use halving::Edge;
 use interval::Interval;
@@ -93,7 +93,7 @@ fn flags(w: Window, first: u64, last: u64) -> u32
 
 // Writes an interval as the record after the `count` that are there.
 fn put(w: Window, out: &mut [u8], count: usize, first: u64, last: u64)
-    requires { ⌜ Room count 1 (now out) ⌝ }
+    requires { ⌜ RoomFor count 1 (now out) ⌝ }
     ensures { λ _. ⌜ now (out .exit) ≡ written w (now (out .entry)) count (span first last ∷ []) ⌝ }
 {
     let r = Interval {
@@ -108,7 +108,7 @@ fn put(w: Window, out: &mut [u8], count: usize, first: u64, last: u64)
 // One step, to the sample b. From no to yes: the high neighbour is a first. From yes to no: the low one is a last.
 fn advance(t: &[u32], o: Orbit, question: u32, w: Window, out: &mut [u8], s: State, b: u64) -> State
     requires { ⌜ (Ready (now t) o) × (Stretch (answerAt o question) (s .at) b (s .was)) × (Few s) ⌝ }
-    requires { ⌜ Room (s .count) (length (closedIn (answerAt o question) (s .first) (s .at) b)) (now out) ⌝ }
+    requires { ⌜ RoomFor (s .count) (length (closedIn (answerAt o question) (s .first) (s .at) b)) (now out) ⌝ }
     ensures { λ r. ⌜ r ≡ advanced (answerAt o question) s b ⌝ }
     ensures { λ _. ⌜ now (out .exit) ≡ written w (now (out .entry)) (s .count) (closedIn (answerAt o question) (s .first) (s .at) b) ⌝ }
 {
@@ -145,7 +145,7 @@ fn advance(t: &[u32], o: Orbit, question: u32, w: Window, out: &mut [u8], s: Sta
 
 // The end: a yes at the last sample closes an interval there.
 fn close(w: Window, out: &mut [u8], s: State) -> Found
-    requires { ⌜ Room (s .count) (length (ended (s .was) (s .first) (s .at))) (now out) ⌝ }
+    requires { ⌜ RoomFor (s .count) (length (ended (s .was) (s .first) (s .at))) (now out) ⌝ }
     ensures { λ r. ⌜ r ≡ finished s ⌝ }
     ensures { λ _. ⌜ now (out .exit) ≡ written w (now (out .entry)) (s .count) (ended (s .was) (s .first) (s .at)) ⌝ }
 {

@@ -80,8 +80,8 @@ module _ (s : List ℕ) (room : ℕ) where
       also (λ r h. plain s (not (settlesAt (orbitWith e) (w .t0))) refusal.Kepler r refl h)
       also done)
 
-  in-order : Ordered (tableOf s room)
-  in-order = each-weaker (λ n r t. t .0) told-all
+  rows-ordered : Ordered (tableOf s room)
+  rows-ordered = each-weaker (λ n r t. t .0) told-all
 
   -- ---- a refusal
 
@@ -96,7 +96,7 @@ module _ (s : List ℕ) (room : ℕ) where
   -- is given exactly if its row applies and each row before it passes
   pub refused-exactly : (r : Refusal) → (outcomeOf s room ≡ Refused r) ↔ Gives (tableOf s room) (orderOf r) r
   refused-exactly r =
-      let exactly = first-exactly (tableOf s room) in-order r in
+      let exactly = first-exactly (tableOf s room) rows-ordered r in
       (λ h. exactly .0 (refused-first r h), λ g. first-refused r (exactly .1 g))
 
   -- so field k is refused by its number, where each row before its own passes

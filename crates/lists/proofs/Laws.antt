@@ -14,7 +14,7 @@ use Rattle.job.specs.Reply.{roomForReply, replyOf}
 use Rattle.job.proofs.Parts.{reply-fits}
 use Rattle.job.proofs.Roomy.{reply-roomy}
 use Rattle.words.proofs.Stores.{sets-append, sets-rest}
-use Rattle.lists.specs.Replies.{pieceOf, roomyReply, repliesOf, Room}
+use Rattle.lists.specs.Replies.{pieceOf, roomyReply, repliesOf, RoomBehind}
 
 -- ---- a piece
 
@@ -38,7 +38,7 @@ roomy-fits : (s : List ℕ) → length (roomyReply s) ≤ roomForReply
 roomy-fits s = reply-fits s roomForReply
 
 -- piece n of s was replied to in the rest of `out`: `new` stands there, of which r bytes are the reply
-module _ (s out : List ℕ) (n end used r : ℕ) (new : List ℕ) (h : Room used out) (e : end ≡ min (136 * n + 136) (length s))
+module _ (s out : List ℕ) (n end used r : ℕ) (new : List ℕ) (h : RoomBehind used out) (e : end ≡ min (136 * n + 136) (length s))
     (told : r ≡ length (replyOf (take (end - 136 * n) (drop (136 * n) s)) (length (take (length out - used) (drop used out)))))
     (left : new ≡ sets (take (length out - used) (drop used out)) 0 (replyOf (take (end - 136 * n) (drop (136 * n) s)) (length (take (length out - used) (drop used out))))) where
   room : roomForReply ≤ length (take (length out - used) (drop used out))
@@ -85,11 +85,11 @@ module _ {n : ℕ} {s old out : List ℕ} {used : ℕ} (stand : Stand n s old ou
   stand-fit = omega (arith, stand .inside, stand-long)
 
   -- the loop's test
-  pub stand-room : leb roomForReply (length out - used) ≡ true → Room used out
+  pub stand-room : leb roomForReply (length out - used) ≡ true → RoomBehind used out
   stand-room h = omega (arith, leb-true roomForReply (length out - used) h, stand-fit)
 
   -- without room for one more there is one
-  pub stand-some : Room 0 old → length out - used < roomForReply → 0 < n
+  pub stand-some : RoomBehind 0 old → length out - used < roomForReply → 0 < n
   stand-some room full = by n refl
     where
       by : (k : ℕ) → n ≡ k → 0 < k
@@ -97,7 +97,7 @@ module _ {n : ℕ} {s old out : List ℕ} {used : ℕ} (stand : Stand n s old ou
       by (suc k) e = omega arith
 
   -- one more
-  pub stand-more : {out′ : List ℕ} {used′ : ℕ} → Room used out → used′ ≡ used + length (roomyReply (pieceOf n s)) → out′ ≡ sets out used (roomyReply (pieceOf n s)) → Stand (n + 1) s old out′ used′
+  pub stand-more : {out′ : List ℕ} {used′ : ℕ} → RoomBehind used out → used′ ≡ used + length (roomyReply (pieceOf n s)) → out′ ≡ sets out used (roomyReply (pieceOf n s)) → Stand (n + 1) s old out′ used′
   unfolding repliesOf
   stand-more room u o =
       let before = repliesOf n s in

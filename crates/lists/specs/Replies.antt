@@ -28,5 +28,5 @@ abbrev pub Pieces : ℕ → List ℕ → Type 0
 Pieces n s = (0 < n) × (136 * n < length s + 136)
 
 -- room for any reply behind the `used` bytes
-abbrev pub Room : ℕ → List ℕ → Type 0
-Room used out = used + roomForReply ≤ length out
+abbrev pub RoomBehind : ℕ → List ℕ → Type 0
+RoomBehind used out = used + roomForReply ≤ length out

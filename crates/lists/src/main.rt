@@ -5,7 +5,7 @@ ghost use mathlib.Core.Path.{_≡_};
 ghost use lib.ListN.{length};
 ghost use lib.Seq.{sets};
 ghost use Rattle.io.specs.Counts.{Counts};
-ghost use Rattle.lists.specs.Replies.{pieceOf, roomyReply, repliesOf, Begins, Pieces, Room};
+ghost use Rattle.lists.specs.Replies.{pieceOf, roomyReply, repliesOf, Begins, Pieces, RoomBehind};
 ghost use Rattle.lists.specs.Buffer.{tailOf, Filled, Kept};
 use libc::STDIN_FILENO;
 use libc::STDOUT_FILENO;
@@ -30,7 +30,7 @@ fn least(a: usize, b: usize) -> usize
 
 // The reply to piece n of `src`, behind the `used` bytes of `out`; how many are in use then.
 fn put_reply(src: &[u8], n: usize, out: &mut [u8], used: usize) -> usize
-    requires { ⌜ (Begins n (now src)) × (Room used (now out)) ⌝ }
+    requires { ⌜ (Begins n (now src)) × (RoomBehind used (now out)) ⌝ }
     ensures { λ r. ⌜ r ≡ used + length (roomyReply (pieceOf n (now (src .entry)))) ⌝ }
     ensures { λ _. ⌜ now (out .exit) ≡ sets (now (out .entry)) used (roomyReply (pieceOf n (now (src .entry)))) ⌝ }
 {
@@ -41,7 +41,7 @@ fn put_reply(src: &[u8], n: usize, out: &mut [u8], used: usize) -> usize
 
 // The replies to the first pieces of `src`, one behind the other from byte 0 of `out`, while there is room for any reply.
 fn replies(src: &[u8], out: &mut [u8]) -> Batch
-    requires { ⌜ (Begins 0 (now src)) × (Room 0 (now out)) ⌝ }
+    requires { ⌜ (Begins 0 (now src)) × (RoomBehind 0 (now out)) ⌝ }
     ensures { λ r. ⌜ (Pieces (r .pieces) (now (src .entry))) × (Counts (r .used) (now (out .exit))) ⌝ }
     ensures { λ r. ⌜ r .used ≡ length (repliesOf (r .pieces) (now (src .entry))) ⌝ }
     ensures { λ r. ⌜ now (out .exit) ≡ sets (now (out .entry)) 0 (repliesOf (r .pieces) (now (src .entry))) ⌝ }
@@ -66,7 +66,7 @@ fn written(bytes: &[u8]) -> bool {
 
 // Answers every piece of `src`, by way of `out`; false where a write failed.
 fn reply_all(src: &[u8], out: &mut [u8]) -> bool
-    requires { ⌜ Room 0 (now out) ⌝ }
+    requires { ⌜ RoomBehind 0 (now out) ⌝ }
 {
     let mut at = 0;
     while at < src.len() {
@@ -98,7 +98,7 @@ fn keep(buf: &mut [u8], filled: usize) -> usize
 
 // One read behind the `kept` bytes of a record that has not come whole, and the replies to those that have; whether to go on.
 fn turn(buf: &mut [u8], kept: &mut usize, out: &mut [u8]) -> bool
-    requires { ⌜ (Kept (now kept) (now buf)) × (Room 0 (now out)) ⌝ }
+    requires { ⌜ (Kept (now kept) (now buf)) × (RoomBehind 0 (now out)) ⌝ }
     ensures { λ _. ⌜ Kept (now (kept .exit)) (now (buf .exit)) ⌝ }
 {
     let from = *kept;
@@ -122,7 +122,7 @@ fn turn(buf: &mut [u8], kept: &mut usize, out: &mut [u8]) -> bool
 
 // A proved loop has to end, so it counts its turns down, from a number that no run uses up.
 fn run(buf: &mut [u8], out: &mut [u8])
-    requires { ⌜ (Kept 0 (now buf)) × (Room 0 (now out)) ⌝ }
+    requires { ⌜ (Kept 0 (now buf)) × (RoomBehind 0 (now out)) ⌝ }
 {
     let mut turns = u64::MAX;
     let mut kept = 0;

@@ -3,12 +3,12 @@ use mathlib.Core.Path.{_≡_}
 use borrow.Author.Needs.{needs}
 use lib.ListN.{length}
 use Rattle.lists.specs.Buffer.{Kept}
-use Rattle.lists.specs.Replies.{Room}
+use Rattle.lists.specs.Replies.{RoomBehind}
 use Rattle.lists.proofs.run.Statement.{statement}
 use Rattle.lists.proofs.run.Tie as tie
 
 abbrev Inv-loop : tie.InvT-loop
-Inv-loop buf₀ out₀ turns₀ kept₀ buf out turns kept = (Kept kept buf) × (Room 0 out) × (length buf ≡ length buf₀) × (length out ≡ length out₀)
+Inv-loop buf₀ out₀ turns₀ kept₀ buf out turns kept = (Kept kept buf) × (RoomBehind 0 out) × (length buf ≡ length buf₀) × (length out ≡ length out₀)
 
 abbrev μ-loop : tie.MeasureT-loop
 μ-loop buf₀ out₀ turns₀ kept₀ buf out turns kept = turns

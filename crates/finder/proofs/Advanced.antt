@@ -6,9 +6,10 @@ use mathlib.Core.Bool.{Bool, true, false, Bool·beq, true≢false}
 use native.Mathlib.Omega.{arith}
 use lib.ListN.{length}
 use Rattle.halving.specs.declared.Edge.{Edge}
+use Rattle.finder.specs.declared.Found.{Found}
 use Rattle.finder.specs.declared.State.{State}
 use Rattle.finder.specs.declared.Window.{Window}
-use Rattle.finder.specs.Spans.{span, edge, closedIn, ended}
+use Rattle.finder.specs.Spans.{Span, span, edge, closedIn, ended}
 use Rattle.finder.specs.Asked.{middlesIn}
 use Rattle.finder.specs.Records.{recordsOf, written}
 use Rattle.finder.specs.State.{RoomFor, advanced, finished}
@@ -27,20 +28,25 @@ other-yes false true d p = refl
 other-yes true y d p = absurd (true≢false p)
 
 module _ (f : ℕ → Bool) (w : Window) (s : State) (b : ℕ) (yes : Bool) (at-a : s .was ≡ f (s .at)) (at-b : yes ≡ f b) where
-  -- a step whose end-state agree
+  abbrev closing : List Span
+  closing = closedIn f (s .first) (s .at) b
+
+  -- the state r and the bytes out′ are those after the step, where the bytes were `out`
+  abbrev Made : State → List ℕ → List ℕ → Type 0
+  Made r out out′ = (r ≡ advanced f s b) × (out′ ≡ written w out (s .count) closing)
+
+  -- a step whose ends agree
   module _ (agree : Bool·beq yes (s .was) ≡ true) where
     same : f (s .at) ≡ f b
     same = sym at-a ∙ sym (beq-true yes (s .was) agree) ∙ at-b
 
-    pub agree-state : record { at = b; was = yes; first = s .first; count = s .count; asked = s .asked + 1 } ≡ advanced f s b
-    unfolding advanced
-    agree-state = rw (closed-same f (s .first) (s .at) b same, first-same f (s .first) (s .at) b same, middles-same f (s .at) b (rw (← at-a, ← at-b) agree)) (let n : s .count ≡ s .count + 0 = omega arith in cc)
+    pub stays : (out : List ℕ) → Made (record { at = b; was = yes; first = s .first; count = s .count; asked = s .asked + 1 }) out out
+    unfolding advanced recordsOf
+    stays out =
+        let none : s .count ≡ s .count + 0 = omega arith in
+        rw (closed-same f (s .first) (s .at) b same, first-same f (s .first) (s .at) b same, middles-same f (s .at) b (rw (← at-a, ← at-b) agree)) (cc, refl)
 
-    pub agree-out : (out : List ℕ) → out ≡ written w out (s .count) (closedIn f (s .first) (s .at) b)
-    unfolding recordsOf
-    agree-out out = rw (closed-same f (s .first) (s .at) b same)
-
-  -- a step whose end-state differ
+  -- a step whose ends differ
   module _ (apart : Bool·beq yes (s .was) ≡ false) (e : Edge) (found : e ≡ edge f (s .at) b) where
     counted : s .asked + 1 + e .asked ≡ s .asked + suc (length (middlesIn f (s .at) b))
     counted = rw found (omega (arith, middles-differ f (s .at) b (rw (← at-a, ← at-b) apart)))
@@ -53,15 +59,11 @@ module _ (f : ℕ → Bool) (w : Window) (s : State) (b : ℕ) (yes : Bool) (at-
       from-no : f (s .at) ≡ false
       from-no = sym at-a ∙ other-no yes (s .was) apart b-yes
 
-      pub begin-state : record { at = b; was = yes; first = e .high; count = s .count; asked = s .asked + 1 + e .asked } ≡ advanced f s b
-      unfolding advanced
-      begin-state =
-          rw (closed-begins f (s .first) (s .at) b from-no to-yes, first-begins f (s .first) (s .at) b from-no to-yes, ← found, ← counted)
-          (let n : s .count ≡ s .count + 0 = omega arith in cc)
-
-      pub begin-out : (out : List ℕ) → out ≡ written w out (s .count) (closedIn f (s .first) (s .at) b)
-      unfolding recordsOf
-      begin-out out = rw (closed-begins f (s .first) (s .at) b from-no to-yes)
+      pub begins : (out : List ℕ) → Made (record { at = b; was = yes; first = e .high; count = s .count; asked = s .asked + 1 + e .asked }) out out
+      unfolding advanced recordsOf
+      begins out =
+          let none : s .count ≡ s .count + 0 = omega arith in
+          rw (closed-begins f (s .first) (s .at) b from-no to-yes, first-begins f (s .first) (s .at) b from-no to-yes, ← found, ← counted) (cc, refl)
 
     -- from yes to no
     module _ (b-no : yes ≡ false) where
@@ -71,35 +73,31 @@ module _ (f : ℕ → Bool) (w : Window) (s : State) (b : ℕ) (yes : Bool) (at-
       from-yes : f (s .at) ≡ true
       from-yes = sym at-a ∙ other-yes yes (s .was) apart b-no
 
-      closes : closedIn f (s .first) (s .at) b ≡ span (s .first) (e .low) ∷ []
+      closes : closing ≡ span (s .first) (e .low) ∷ []
       closes = closed-ends f (s .first) (s .at) b from-yes to-no ∙ ap (λ (x : Edge). span (s .first) (x .low) ∷ []) (sym found)
 
-      pub end-state : record { at = b; was = yes; first = s .first; count = s .count + 1; asked = s .asked + 1 + e .asked } ≡ advanced f s b
+      pub ends-room : (out : List ℕ) → RoomFor (s .count) (length closing) out → RoomFor (s .count) 1 out
+      ends-room out h = rw closes at h
+
+      pub ends : (out out′ : List ℕ) → out′ ≡ written w out (s .count) (span (s .first) (e .low) ∷ []) → Made (record { at = b; was = yes; first = s .first; count = s .count + 1; asked = s .asked + 1 + e .asked }) out out′
       unfolding advanced
-      end-state = rw (closes, first-ends f (s .first) (s .at) b from-yes to-no, ← counted) cc
-
-      pub end-room : (out : List ℕ) → RoomFor (s .count) (length (closedIn f (s .first) (s .at) b)) out → RoomFor (s .count) 1 out
-      end-room out h = rw closes at h
-
-      pub end-out : (out out′ : List ℕ) → out′ ≡ written w out (s .count) (span (s .first) (e .low) ∷ []) → out′ ≡ written w out (s .count) (closedIn f (s .first) (s .at) b)
-      end-out out out′ h = rw closes h
+      ends out out′ h = rw (closes, first-ends f (s .first) (s .at) b from-yes to-no, ← counted) (cc, h)
 
 -- after the last sample
 module _ (w : Window) (s : State) where
-  pub close-state : s .was ≡ true → record { intervals = s .count + 1; asked = s .asked } ≡ finished s
+  abbrev closing-last : List Span
+  closing-last = ended (s .was) (s .first) (s .at)
+
+  abbrev Finished : Found → List ℕ → List ℕ → Type 0
+  Finished r out out′ = (r ≡ finished s) × (out′ ≡ written w out (s .count) closing-last)
+
+  pub last-room : (out : List ℕ) → s .was ≡ true → RoomFor (s .count) (length closing-last) out → RoomFor (s .count) 1 out
+  last-room out p h = rw p at h
+
+  pub last-yes : s .was ≡ true → (out out′ : List ℕ) → out′ ≡ written w out (s .count) (span (s .first) (s .at) ∷ []) → Finished (record { intervals = s .count + 1; asked = s .asked }) out out′
   unfolding finished
-  close-state p = rw p
+  last-yes p out out′ h = rw p (refl, h)
 
-  pub close-room : (out : List ℕ) → s .was ≡ true → RoomFor (s .count) (length (ended (s .was) (s .first) (s .at))) out → RoomFor (s .count) 1 out
-  close-room out p h = rw p at h
-
-  pub close-out : s .was ≡ true → (out out′ : List ℕ) → out′ ≡ written w out (s .count) (span (s .first) (s .at) ∷ []) → out′ ≡ written w out (s .count) (ended (s .was) (s .first) (s .at))
-  close-out p out out′ h = rw p h
-
-  pub shut-state : s .was ≡ false → record { intervals = s .count; asked = s .asked } ≡ finished s
-  unfolding finished
-  shut-state p = rw p (let n : s .count ≡ s .count + 0 = omega arith in cc)
-
-  pub shut-out : s .was ≡ false → (out : List ℕ) → out ≡ written w out (s .count) (ended (s .was) (s .first) (s .at))
-  unfolding recordsOf
-  shut-out p out = rw p
+  pub last-no : s .was ≡ false → (out : List ℕ) → Finished (record { intervals = s .count; asked = s .asked }) out out
+  unfolding finished recordsOf
+  last-no p out = let none : s .count ≡ s .count + 0 = omega arith in rw p (cc, refl)

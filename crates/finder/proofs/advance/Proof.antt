@@ -1,9 +1,8 @@
 -- `finder::advance` meets its contract: by the three cases of a step.
 use native.Mathlib.Omega.{arith}
-use denote.Ref.{now}
 use Rattle.geometry.specs.Visible.{answerAt}
 use Rattle.finder.proofs.OneStep.{found-most}
-use Rattle.finder.proofs.Advanced.{agree-state, agree-out, begin-state, begin-out, end-state, end-room, end-out}
+use Rattle.finder.proofs.Advanced.{stays, begins, ends-room, ends}
 use borrow.Author.Needs.{needs}
 use Rattle.finder.proofs.advance.Statement.{statement}
 use Rattle.finder.proofs.advance.Tie as tie
@@ -18,12 +17,8 @@ returns : tie.Need-returns
 returns c =
     let asked = c .before .before .before in
     let start = asked .before .before .before in
-    let f = answerAt (start .args .o) (start .args .question) in
-    let was = start .pre .0 .1 .answered in
-    let agree = c .before .if1 .taken in (
-      agree-state f (start .args .w) (start .args .s) (start .args .b) (asked .answer .result) was (asked .answer .ensures) agree,
-      agree-out f (start .args .w) (start .args .s) (start .args .b) (asked .answer .result) was (asked .answer .ensures) agree _,
-    )
+    let a = start .args in
+    stays (answerAt (a .o) (a .question)) (a .w) (a .s) (a .b) (asked .answer .result) (start .pre .0 .1 .answered) (asked .answer .ensures) (c .before .if1 .taken) _
 
 halve-requires : tie.Need-halve-requires
 halve-requires c κs = search needs
@@ -35,7 +30,8 @@ add-asked-2 : tie.Need-add-asked-2
 add-asked-2 c =
     let found = c .before .before in
     let start = found .before .before .before .before .before .before in
-    omega (arith, found-most (answerAt (start .args .o) (start .args .question)) (start .args .s .at) (start .args .b) (found .halve .result) (found .halve .ensures), start .pre .0 .2)
+    let a = start .args in
+    omega (arith, found-most (answerAt (a .o) (a .question)) (a .s .at) (a .b) (found .halve .result) (found .halve .ensures), start .pre .0 .2)
 
 returns-2 : tie.Need-returns-2
 returns-2 c =
@@ -43,20 +39,20 @@ returns-2 c =
     let apart = found .before in
     let asked = apart .before .before in
     let start = asked .before .before .before in
-    let f = answerAt (start .args .o) (start .args .question) in
-    let was = start .pre .0 .1 .answered in (
-      begin-state f (start .args .w) (start .args .s) (start .args .b) (asked .answer .result) was (asked .answer .ensures) (apart .if1 .left) (found .halve .result) (found .halve .ensures) (c .if2 .taken),
-      begin-out f (start .args .w) (start .args .s) (start .args .b) (asked .answer .result) was (asked .answer .ensures) (apart .if1 .left) (found .halve .result) (found .halve .ensures) (c .if2 .taken) _,
-    )
+    let a = start .args in
+    begins (answerAt (a .o) (a .question)) (a .w) (a .s) (a .b) (asked .answer .result) (start .pre .0 .1 .answered) (asked .answer .ensures)
+    (apart .if1 .left) (found .halve .result) (found .halve .ensures) (c .if2 .taken) _
 
 put-requires : tie.Need-put-requires
 put-requires c κs =
-    let no = c .before in
-    let found = no .before .before .before in
+    let last = c .before in
+    let found = last .before .before .before in
     let apart = found .before in
     let asked = apart .before .before in
     let start = asked .before .before .before in
-    end-room (answerAt (start .args .o) (start .args .question)) (start .args .w) (start .args .s) (start .args .b) (asked .answer .result) (start .pre .0 .1 .answered) (asked .answer .ensures) (apart .if1 .left) (found .halve .result) (found .halve .ensures) (no .if2 .left) (start .args .out .now) (start .pre .1)
+    let a = start .args in
+    ends-room (answerAt (a .o) (a .question)) (a .w) (a .s) (a .b) (asked .answer .result) (start .pre .0 .1 .answered) (asked .answer .ensures)
+    (apart .if1 .left) (found .halve .result) (found .halve .ensures) (last .if2 .left) (a .out .now) (start .pre .1)
 
 add-t17 : tie.Need-add-t17
 add-t17 c =
@@ -69,16 +65,14 @@ same-length c = search needs
 returns-3 : tie.Need-returns-3
 returns-3 c =
     let put = c .before .before .before in
-    let no = put .before .before in
-    let found = no .before .before .before in
+    let last = put .before .before in
+    let found = last .before .before .before in
     let apart = found .before in
     let asked = apart .before .before in
     let start = asked .before .before .before in
-    let f = answerAt (start .args .o) (start .args .question) in
-    let was = start .pre .0 .1 .answered in (
-      end-state f (start .args .w) (start .args .s) (start .args .b) (asked .answer .result) was (asked .answer .ensures) (apart .if1 .left) (found .halve .result) (found .halve .ensures) (no .if2 .left),
-      end-out f (start .args .w) (start .args .s) (start .args .b) (asked .answer .result) was (asked .answer .ensures) (apart .if1 .left) (found .halve .result) (found .halve .ensures) (no .if2 .left) _ _ (put .put .ensures),
-    )
+    let a = start .args in
+    ends (answerAt (a .o) (a .question)) (a .w) (a .s) (a .b) (asked .answer .result) (start .pre .0 .1 .answered) (asked .answer .ensures)
+    (apart .if1 .left) (found .halve .result) (found .halve .ensures) (last .if2 .left) _ _ (put .put .ensures)
 
 pub advance-spec : {M : Type 1} → statement M
 advance-spec =

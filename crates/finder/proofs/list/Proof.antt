@@ -28,21 +28,17 @@ sample-requires : tie.Need-sample-requires Inv-loop μ-loop
 sample-requires c κs =
     let head = c .before in
     let start = head .before .before .before .before .before in
-    let now = head .loop in
-    going-sampled (answerAt (start .args .o) (start .args .question)) (start .args .w) (start .args .out .now) (start .pre .1) (now .out) (now .s) (now .left) (now .inv)
+    going-sampled (start .pre .1) (head .loop .inv)
 
 advance-requires : tie.Need-advance-requires Inv-loop μ-loop
 advance-requires c κs =
     let head = c .before .before .before in
     let start = head .before .before .before .before .before in
-    let f = answerAt (start .args .o) (start .args .question) in
-    let w = start .args .w in
-    let out₀ = start .args .out .now in
-    let good = start .pre .1 in
-    let now = head .loop in
-    let b = c .before .sample in (
-      (start .pre .0, going-stretch f w out₀ good (now .out) (now .s) (now .left) (now .inv) (b .result) (b .ensures), going-few f w out₀ good (now .out) (now .s) (now .left) (now .inv)),
-      going-room f w out₀ good (now .out) (now .s) (now .left) (now .inv) (c .before .before .loop-test .taken) (start .pre .2) (b .result) (b .ensures),
+    let going = head .loop .inv in
+    let b = c .before .sample in
+    let good = start .pre .1 in (
+      (start .pre .0, going-stretch good going (b .result) (b .ensures), going-few good going),
+      going-room good going (c .before .before .loop-test .taken) (start .pre .2) (b .result) (b .ensures),
     )
 
 sub-left : tie.Need-sub-left Inv-loop μ-loop
@@ -57,15 +53,13 @@ loop-again c =
     let sampled = done .before .before in
     let head = sampled .before .before in
     let start = head .before .before .before .before .before in
-    let now = head .loop in
-    going-on (answerAt (start .args .o) (start .args .question)) (start .args .w) (start .args .out .now) (start .pre .1) (now .out) (now .s) (now .left) (now .inv) (sampled .before .loop-test .taken) _ _ (sampled .sample .result) (sampled .sample .ensures) (done .advance .ensures .0) (done .advance .ensures .1)
+    going-on (start .pre .1) (head .loop .inv) (sampled .before .loop-test .taken) _ _ (sampled .sample .result) (sampled .sample .ensures) (done .advance .ensures .0) (done .advance .ensures .1)
 
 close-requires : tie.Need-close-requires Inv-loop μ-loop
 close-requires c κs =
     let head = c .before .before in
     let start = head .before .before .before .before .before in
-    let now = head .loop in
-    end-room (answerAt (start .args .o) (start .args .question)) (start .args .w) (start .args .out .now) (start .pre .1) (now .out) (now .s) (now .left) (now .inv) (c .before .loop-test .left) (start .pre .2)
+    end-room (start .pre .1) (head .loop .inv) (c .before .loop-test .left) (start .pre .2)
 
 same-length : tie.Need-same-length Inv-loop μ-loop
 same-length c = search needs
@@ -75,14 +69,9 @@ returns c =
     let done = c .before .before in
     let left = done .before .before in
     let head = left .before in
-    let start = head .before .before .before .before .before in
-    let now = head .loop in
-    let f = answerAt (start .args .o) (start .args .question) in
-    let w = start .args .w in
-    let out₀ = start .args .out .now in
-    let good = start .pre .1 in (
-      done .close .ensures .0 ∙ end-found f w out₀ good (now .out) (now .s) (now .left) (now .inv) (left .loop-test .left),
-      end-out f w out₀ good (now .out) (now .s) (now .left) (now .inv) (left .loop-test .left) _ (done .close .ensures .1),
+    let good = head .before .before .before .before .before .pre .1 in (
+      done .close .ensures .0 ∙ end-found good (head .loop .inv) (left .loop-test .left),
+      end-out good (head .loop .inv) (left .loop-test .left) _ (done .close .ensures .1),
     )
 
 pub list-spec : {M : Type 1} → statement M

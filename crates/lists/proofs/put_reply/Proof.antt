@@ -1,4 +1,4 @@
--- `lists::put_reply` meets its contract: the piece is lent up to its end, and its answer is stored in the rest of `out`.
+-- `lists::put_reply` meets its contract: the piece is lent up to its end, and its reply is stored in the rest of `out`.
 use Rattle.lists.proofs.Laws.{reply-ends, reply-stands}
 use native.Mathlib.Omega.{arith}
 use borrow.Author.Needs.{needs}

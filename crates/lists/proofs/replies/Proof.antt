@@ -1,4 +1,4 @@
--- `lists::replies` meets its contract. Whenever the loop's test is reached, the answers to the first n pieces stand in `out`; the measure is the bytes that are left.
+-- `lists::replies` meets its contract. Whenever the loop's test is reached, the replies to the first n pieces stand in `out`; the measure is the bytes that are left.
 use Prim.Native.Nat.{_<_, _+_, _*_, _-_}
 use native.Mathlib.Omega.{arith}
 use borrow.Author.Needs.{needs}

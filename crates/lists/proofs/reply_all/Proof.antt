@@ -1,4 +1,4 @@
--- `lists::reply_all` meets its contract, which asks that each batch has room. The measure is the bytes that are left; a batch answers one piece at least.
+-- `lists::reply_all` meets its contract, which asks that each batch has room. The measure is the bytes that are left; a batch replies to one piece at least.
 use Prim.Native.Nat.{_-_}
 use mathlib.Core.Path.{_≡_}
 use native.Mathlib.Omega.{arith}

@@ -2,7 +2,7 @@
 use Prim.Native.Nat.{ℕ, suc, _+_}
 use mathlib.Core.Path.{_≡_, refl, sym, ap, _∙_}
 use mathlib.Core.List.{List, [], _∷_}
-use mathlib.Core.Bool.{Bool, true, false, Bool·beq, true≢false}
+use mathlib.Core.Bool.{Bool, true, false, not, Bool·beq}
 use native.Mathlib.Omega.{arith}
 use lib.ListN.{length}
 use Rattle.halving.specs.declared.Edge.{Edge}
@@ -15,17 +15,12 @@ use Rattle.finder.specs.Records.{recordsOf, written}
 use Rattle.finder.specs.State.{RoomFor, advanced, finished}
 use Rattle.finder.proofs.OneStep.{beq-true, closed-same, first-same, closed-ends, first-ends, closed-begins, first-begins, middles-same, middles-differ}
 
--- two answers that differ, of which one is yes
-other-no : (x y : Bool) → Bool·beq x y ≡ false → x ≡ true → y ≡ false
-other-no true true d p = d
-other-no true false d p = refl
-other-no false y d p = absurd (true≢false (sym p))
-
--- or no
-other-yes : (x y : Bool) → Bool·beq x y ≡ false → x ≡ false → y ≡ true
-other-yes false false d p = sym d
-other-yes false true d p = refl
-other-yes true y d p = absurd (true≢false p)
+-- of two answers that differ one is the other's opposite
+other : (x y : Bool) → Bool·beq x y ≡ false → y ≡ not x
+other true true d = d
+other true false d = refl
+other false true d = refl
+other false false d = sym d
 
 module _ (f : ℕ → Bool) (w : Window) (s : State) (b : ℕ) (yes : Bool) (at-a : s .was ≡ f (s .at)) (at-b : yes ≡ f b) where
   abbrev closing : List Span
@@ -57,7 +52,7 @@ module _ (f : ℕ → Bool) (w : Window) (s : State) (b : ℕ) (yes : Bool) (at-
       to-yes = sym at-b ∙ b-yes
 
       from-no : f (s .at) ≡ false
-      from-no = sym at-a ∙ other-no yes (s .was) apart b-yes
+      from-no = sym at-a ∙ other yes (s .was) apart ∙ ap not b-yes
 
       pub begins : (out : List ℕ) → Made (record { at = b; was = yes; first = e .high; count = s .count; asked = s .asked + 1 + e .asked }) out out
       unfolding advanced recordsOf
@@ -71,7 +66,7 @@ module _ (f : ℕ → Bool) (w : Window) (s : State) (b : ℕ) (yes : Bool) (at-
       to-no = sym at-b ∙ b-no
 
       from-yes : f (s .at) ≡ true
-      from-yes = sym at-a ∙ other-yes yes (s .was) apart b-no
+      from-yes = sym at-a ∙ other yes (s .was) apart ∙ ap not b-no
 
       closes : closing ≡ span (s .first) (e .low) ∷ []
       closes = closed-ends f (s .first) (s .at) b from-yes to-no ∙ ap (λ (x : Edge). span (s .first) (x .low) ∷ []) (sym found)

@@ -1,6 +1,6 @@
 -- The job's cases, each from what its parts answered: a refusal stops, and a pass hands on to the rows behind it.
 use Prim.Native.Nat.{ℕ}
-use mathlib.Core.Path.{_≡_, refl, sym, _∙_}
+use mathlib.Core.Path.{_≡_, refl, sym, ap, _∙_}
 use mathlib.Core.Bool.{Bool}
 use mathlib.Core.List.{List}
 use lib.ListN.{length}
@@ -9,7 +9,7 @@ use Rattle.refusal.specs.Rows.{_then_, first}
 use Rattle.refusal.specs.declared.Refusal.{Refusal}
 use Rattle.refusal.specs.declared.Verdict.{Verdict}
 use Rattle.refusal.specs.declared.Verdict.the-variants as verdict
-use Rattle.refusal.proofs.Order.{first-append, then-assoc, first-exactly, passed-exactly}
+use Rattle.refusal.proofs.Order.{first-append, then-assoc, then-passed, first-exactly, passed-exactly}
 use Rattle.elements.specs.Reading.{recordRows, elementsOf, readingOf}
 use Rattle.elements.specs.declared.reading.Elements.{Elements}
 use Rattle.elements.specs.declared.reading.Reading.the-variants as reading
@@ -19,7 +19,7 @@ use Rattle.finder.specs.declared.Window.{Window}
 use Rattle.finder.specs.declared.Found.{Found}
 use Rattle.finder.specs.Spans.{listOf}
 use Rattle.finder.specs.Records.{recordsOf, foundOf}
-use Rattle.job.specs.Table.{windowOf, questionOf, windowRow, stepRow, questionRow, roomRow, rowsFromSearch, rowsFromQuestion, rowsFromWindow, tableOf}
+use Rattle.job.specs.Table.{windowOf, questionOf, windowRow, stepRow, questionRow, roomRow, rowsBeforeSearch, rowsFromSearch, rowsFromWindow, tableOf}
 use Rattle.job.specs.Outcome.{answersOf, answersIn, outcomeFrom, recordsFrom, outcomeOf, recordsIn, listAfter}
 use Rattle.job.specs.declared.Outcome.{Outcome}
 use Rattle.job.specs.declared.Outcome.the-variants.{Listed, Refused}
@@ -42,37 +42,24 @@ module _ (f : ℕ → Bool) (w : Window) (old : List ℕ) where
 -- ---- a table in two parts
 
 module _ (v a b : Verdict) (parts : v ≡ (a then b)) where
-  stops : (r : Refusal) → a ≡ verdict.Refused r → v ≡ verdict.Refused r
+  pub stops : (r : Refusal) → a ≡ verdict.Refused r → v ≡ verdict.Refused r
   unfolding _then_
   stops r h = parts ∙ rw h
 
-  goes : a ≡ verdict.Passed → v ≡ b
+  pub goes : a ≡ verdict.Passed → v ≡ b
   unfolding _then_
   goes h = parts ∙ rw h
 
--- 8 and 9, then 10
-module _ (e : Elements) (w : Window) (q room : ℕ) where
-  pub question-parts : first (rowsFromQuestion e w q room) ≡ ((questionRow q then roomRow w room) then first (rowsFromSearch e w))
-  unfolding first
-  question-parts = sym (then-assoc (questionRow q) (roomRow w room) (first (rowsFromSearch e w)))
+-- 6 and 7, then 8 and 9
+pub before-parts : (w : Window) (q room : ℕ) → first (rowsBeforeSearch w q room) ≡ ((windowRow w then stepRow w) then (questionRow q then roomRow w room))
+unfolding first
+before-parts w q room =
+    sym (then-assoc (windowRow w) (stepRow w) (questionRow q then roomRow w room then verdict.Passed))
+    ∙ ap (λ (v : Verdict). (windowRow w then stepRow w) then (questionRow q then v)) (then-passed (roomRow w room))
 
-  pub question-stops : (r : Refusal) → (questionRow q then roomRow w room) ≡ verdict.Refused r → first (rowsFromQuestion e w q room) ≡ verdict.Refused r
-  question-stops = stops _ _ _ question-parts
-
-  pub question-goes : (questionRow q then roomRow w room) ≡ verdict.Passed → first (rowsFromQuestion e w q room) ≡ first (rowsFromSearch e w)
-  question-goes = goes _ _ _ question-parts
-
--- 6 and 7, then 8 to 10
-module _ (e : Elements) (w : Window) (q room : ℕ) where
-  pub window-parts : first (rowsFromWindow e w q room) ≡ ((windowRow w then stepRow w) then first (rowsFromQuestion e w q room))
-  unfolding first
-  window-parts = sym (then-assoc (windowRow w) (stepRow w) (first (rowsFromQuestion e w q room)))
-
-  pub window-stops : (r : Refusal) → (windowRow w then stepRow w) ≡ verdict.Refused r → first (rowsFromWindow e w q room) ≡ verdict.Refused r
-  window-stops = stops _ _ _ window-parts
-
-  pub window-goes : (windowRow w then stepRow w) ≡ verdict.Passed → first (rowsFromWindow e w q room) ≡ first (rowsFromQuestion e w q room)
-  window-goes = goes _ _ _ window-parts
+-- 6 to 9, then 10
+pub window-parts : (e : Elements) (w : Window) (q room : ℕ) → first (rowsFromWindow e w q room) ≡ (first (rowsBeforeSearch w q room) then first (rowsFromSearch e w))
+window-parts e w q room = first-append (rowsBeforeSearch w q room) (rowsFromSearch e w)
 
 -- 1 to 5, then 6 to 10
 module _ (s : List ℕ) (room : ℕ) where

@@ -20,7 +20,7 @@ use Rattle.geometry.proofs.Laws.{settles-always}
 use Rattle.finder.specs.declared.Window.{Window}
 use Rattle.finder.specs.Samples.{lastEnd, longestStep, mostSteps, Good, stepsOf}
 use Rattle.finder.specs.Records.{roomOf}
-use Rattle.job.specs.Table.{badWindow, badStep, badQuestion, noRoom, windowRow, stepRow, questionRow, roomRow, orbitWith, keplerRow}
+use Rattle.job.specs.Table.{badWindow, badStep, badQuestion, noRoom, windowRow, stepRow, questionRow, roomRow, orbitWith, keplerRow, rowsBeforeSearch}
 
 neither : (a b : Bool) → (a || b) ≡ false → (a ≡ false) × (b ≡ false)
 neither true b h = (h, absurd (true≢false h))
@@ -96,8 +96,10 @@ pub roomy : (w : Window) (room : ℕ) → roomRow w room ≡ Passed → roomOf w
 unfolding noRoom
 roomy w room h = ltb-false room (roomOf w) (when-passed (noRoom w room) refusal.Room h)
 
-pub both-roomy : (w : Window) (q room : ℕ) → (questionRow q then roomRow w room) ≡ Passed → roomOf w ≤ room
-both-roomy w q room h = roomy w room (both (questionRow q) (roomRow w room) h .1)
+-- what row 10 may suppose: a good window, and room for its list
+pub before-passed : (w : Window) (q room : ℕ) → first (rowsBeforeSearch w q room) ≡ Passed → Good w × (roomOf w ≤ room)
+unfolding rowAt
+before-passed w q room h = let p = passed-exactly (rowsBeforeSearch w q room) .0 h in (good w (p 0) (p 1), roomy w room (p 3))
 
 -- Kepler's search settles at every instant
 pub kepler-passes : (e : Elements) (w : Window) → keplerRow e w ≡ Passed

@@ -10,19 +10,18 @@ use Rattle.refusal.specs.Rows.{when, _then_, first, rowAt}
 use Rattle.refusal.specs.declared.Refusal.the-variants as refusal
 use Rattle.refusal.specs.declared.Verdict.{Verdict}
 use Rattle.refusal.specs.declared.Verdict.the-variants as verdict
-use Rattle.elements.specs.declared.reading.Elements.{Elements}
 use Rattle.refusal.proofs.Order.{not-both}
 use Rattle.elements.specs.Reading.{elementsOf, fieldRows, recordRows}
 use Rattle.finder.specs.declared.Window.{Window}
 use Rattle.finder.specs.Samples.{mostSteps, stepsOf}
 use Rattle.finder.specs.Records.{roomOf, roomForAny}
-use Rattle.job.specs.Table.{windowOf, questionOf, noRoom, windowRow, stepRow, questionRow, roomRow, rowsFromSearch, rowsFromQuestion, rowsFromWindow, tableOf}
+use Rattle.job.specs.Table.{windowOf, questionOf, noRoom, windowRow, stepRow, questionRow, roomRow, rowsBeforeSearch, rowsFromSearch, tableOf}
 use Rattle.job.specs.Outcome.{answersIn, outcomeFrom, recordsFrom, outcomeOf, recordsIn}
 use Rattle.job.specs.Reply.{roomForReply, replyOf}
 use Rattle.job.specs.declared.Outcome.the-variants.{Refused}
 use Rattle.job.proofs.Laws.{both, few-steps}
 use Rattle.job.proofs.Exactly.{refused-exactly}
-use Rattle.job.proofs.Cases.{question-parts, window-parts, table-parts}
+use Rattle.job.proofs.Cases.{before-parts, window-parts, table-parts}
 
 -- a window of at most 4,096 steps has room
 row-passes : (w : Window) (room : ℕ) → stepsOf w ≤ mostSteps → roomForAny ≤ room → roomRow w room ≡ verdict.Passed
@@ -37,27 +36,27 @@ room-never s room enough h =
     let few = few-steps (windowOf s) (gives .none-before 16 (lit< tt)) (gives .none-before 17 (lit< tt)) in
     not-both (row-passes (windowOf s) room few enough) (gives .applies)
 
-module _ (e : Elements) (w : Window) (q a b : ℕ) (p : roomForAny ≤ a) (r : roomForAny ≤ b) where
-  same-question : stepsOf w ≤ mostSteps → first (rowsFromQuestion e w q a) ≡ first (rowsFromQuestion e w q b)
-  same-question few =
-      question-parts e w q a
-      ∙ ap (λ (v : Verdict). (questionRow q then v) then first (rowsFromSearch e w)) (row-passes w a few p ∙ sym (row-passes w b few r))
-      ∙ sym (question-parts e w q b)
-
-  -- more steps than 4,096 are refused before
-  same-window : first (rowsFromWindow e w q a) ≡ first (rowsFromWindow e w q b)
-  unfolding _then_
-  same-window = window-parts e w q a ∙ by (windowRow w then stepRow w) refl ∙ sym (window-parts e w q b)
-    where
-      by : (v : Verdict) → (windowRow w then stepRow w) ≡ v → (v then first (rowsFromQuestion e w q a)) ≡ (v then first (rowsFromQuestion e w q b))
-      by verdict.Passed h = let two = both (windowRow w) (stepRow w) h in same-question (few-steps w (two .0) (two .1))
-      by (verdict.Refused x) h = refl
+-- rows 6 to 9 say the same, since more steps than 4,096 are refused before row 9
+same-before : (w : Window) (q a b : ℕ) → roomForAny ≤ a → roomForAny ≤ b → first (rowsBeforeSearch w q a) ≡ first (rowsBeforeSearch w q b)
+unfolding _then_
+same-before w q a b p r = before-parts w q a ∙ by (windowRow w then stepRow w) refl ∙ sym (before-parts w q b)
+  where
+    by : (v : Verdict) → (windowRow w then stepRow w) ≡ v → (v then (questionRow q then roomRow w a)) ≡ (v then (questionRow q then roomRow w b))
+    by verdict.Passed h =
+        let two = both (windowRow w) (stepRow w) h in
+        let few = few-steps w (two .0) (two .1) in
+        ap (λ (v : Verdict). questionRow q then v) (row-passes w a few p ∙ sym (row-passes w b few r))
+    by (verdict.Refused x) h = refl
 
 module _ (s : List ℕ) (a b : ℕ) (p : roomForAny ≤ a) (r : roomForAny ≤ b) where
   same-verdict : first (tableOf s a) ≡ first (tableOf s b)
   same-verdict =
+      let e = elementsOf s in
+      let w = windowOf s in
+      let q = questionOf s in
       table-parts s a
-      ∙ ap (λ (v : Verdict). first (recordRows s) then v) (same-window (elementsOf s) (windowOf s) (questionOf s) a b p r)
+      ∙ ap (λ (v : Verdict). first (recordRows s) then v)
+      (window-parts e w q a ∙ ap (λ (v : Verdict). v then first (rowsFromSearch e w)) (same-before w q a b p r) ∙ sym (window-parts e w q b))
       ∙ sym (table-parts s b)
 
   same-outcome : outcomeOf s a ≡ outcomeOf s b

@@ -75,13 +75,16 @@ tableOf s room =
     let w = windowOf s in
     recordRows s ++ (windowRow w ∷ stepRow w ∷ questionRow (questionOf s) ∷ roomRow w room ∷ keplerRow (elementsOf s) w ∷ [])
 
--- ---- its last rows, for the contracts of private functions
+-- ---- parts of it, for the contracts of private functions
 
+-- 6 to 9
+abbrev pub rowsBeforeSearch : Window → ℕ → ℕ → List Verdict
+rowsBeforeSearch w q room = windowRow w ∷ stepRow w ∷ questionRow q ∷ roomRow w room ∷ []
+
+-- 10
 abbrev pub rowsFromSearch : Elements → Window → List Verdict
 rowsFromSearch e w = keplerRow e w ∷ []
 
-abbrev pub rowsFromQuestion : Elements → Window → ℕ → ℕ → List Verdict
-rowsFromQuestion e w q room = questionRow q ∷ roomRow w room ∷ rowsFromSearch e w
-
+-- 6 to 10
 abbrev pub rowsFromWindow : Elements → Window → ℕ → ℕ → List Verdict
-rowsFromWindow e w q room = windowRow w ∷ stepRow w ∷ rowsFromQuestion e w q room
+rowsFromWindow e w q room = rowsBeforeSearch w q room ++ rowsFromSearch e w

@@ -2,12 +2,12 @@
 ghost use mathlib.Core.Path.{_≡_};
 ghost use lib.ListN.{length};
 ghost use lib.Seq.{sets};
-ghost use Rattle.refusal.specs.Rows.{_then_};
+ghost use Rattle.refusal.specs.Rows.{_then_, first};
 ghost use Rattle.elements.specs.Accepted.{Accepted};
 ghost use Rattle.elements.specs.Reading.{WholeRecord};
 ghost use Rattle.finder.specs.Samples.{Good};
 ghost use Rattle.finder.specs.Records.{HasRoom};
-ghost use Rattle.job.specs.Table.{windowOf, badWindow, badStep, badQuestion, noRoom, windowRow, stepRow, questionRow, roomRow, rowsFromSearch, rowsFromQuestion, rowsFromWindow};
+ghost use Rattle.job.specs.Table.{windowOf, badWindow, badStep, badQuestion, noRoom, windowRow, stepRow, questionRow, roomRow, rowsBeforeSearch, rowsFromSearch, rowsFromWindow};
 ghost use Rattle.job.specs.Outcome.{intervalsOf, outcomeBy, recordsBy, outcomeOf, listAfter};
 ghost use Rattle.job.specs.Reply.{jobOf, closingOf, replyOf};
 use elements::reading::Elements;
@@ -105,6 +105,17 @@ fn question_and_room(w: Window, question: u32, room: usize) -> Verdict
     then(v, row(no_room(w, room), Refusal::Room))
 }
 
+// Rows 6 to 9. Room is asked only of a window and a step that are let through.
+fn before_search(w: Window, question: u32, room: usize) -> Verdict
+    ensures { λ v. ⌜ v ≡ first (rowsBeforeSearch w question room) ⌝ }
+{
+    let v = window_and_step(w);
+    match v {
+        Verdict::Refused(_) => v,
+        Verdict::Passed => question_and_room(w, question, room),
+    }
+}
+
 // ---- the job
 
 // Row 10, and then the list. The sine table is made here, once, and lent to all that reads it; so a job that an earlier row refuses makes none.
@@ -125,27 +136,15 @@ fn from_search(e: Elements, question: u32, w: Window, list: &mut [u8]) -> Outcom
     }
 }
 
-// Rows 8 to 10, and then the list.
-fn from_question(e: Elements, question: u32, w: Window, list: &mut [u8]) -> Outcome
-    requires { ⌜ (Accepted e) × (Good w) ⌝ }
-    ensures { λ r. ⌜ r ≡ outcomeBy (rowsFromQuestion e w question (length (now (list .entry)))) e question w ⌝ }
-    ensures { λ _. ⌜ now (list .exit) ≡ sets (now (list .entry)) 0 (recordsBy (rowsFromQuestion e w question (length (now (list .entry)))) e question w) ⌝ }
-{
-    match question_and_room(w, question, list.len()) {
-        Verdict::Refused(r) => Outcome::Refused(r),
-        Verdict::Passed => from_search(e, question, w, list),
-    }
-}
-
 // Rows 6 to 10, and then the list.
 fn from_window(e: Elements, question: u32, w: Window, list: &mut [u8]) -> Outcome
     requires { ⌜ Accepted e ⌝ }
     ensures { λ r. ⌜ r ≡ outcomeBy (rowsFromWindow e w question (length (now (list .entry)))) e question w ⌝ }
     ensures { λ _. ⌜ now (list .exit) ≡ sets (now (list .entry)) 0 (recordsBy (rowsFromWindow e w question (length (now (list .entry)))) e question w) ⌝ }
 {
-    match window_and_step(w) {
+    match before_search(w, question, list.len()) {
         Verdict::Refused(r) => Outcome::Refused(r),
-        Verdict::Passed => from_question(e, question, w, list),
+        Verdict::Passed => from_search(e, question, w, list),
     }
 }
 

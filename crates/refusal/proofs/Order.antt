@@ -28,6 +28,14 @@ unfolding _then_
 then-passed Passed = refl
 then-passed (Refused r) = refl
 
+-- what is said of each of two rows is said of both
+pub then-told : {v a b a′ b′ : Verdict} → v ≡ (a then b) → a ≡ a′ → b ≡ b′ → v ≡ (a′ then b′)
+then-told {v} {a} {b} {a′} e p q = e ∙ ap (λ (x : Verdict). x then b) p ∙ ap (λ (x : Verdict). a′ then x) q
+
+-- of a row: of its test
+pub when-told : {v : Verdict} {t t′ : Bool} (r : Refusal) → v ≡ when t r → t ≡ t′ → v ≡ when t′ r
+when-told r e p = e ∙ ap (λ (x : Bool). when x r) p
+
 -- a table in two parts: where the first part passes, the second decides
 pub first-append : (xs ys : List Verdict) → first (xs ++ ys) ≡ first xs then first ys
 unfolding first _then_

@@ -1,10 +1,6 @@
 -- `job::question_and_room` meets its contract: row by row.
-use mathlib.Core.Path.{_≡_, ap, _∙_}
-use mathlib.Core.Bool.{Bool}
-use Rattle.refusal.specs.Rows.{when, _then_}
 use Rattle.refusal.specs.declared.Refusal.the-variants.{Question, Room}
-use Rattle.refusal.specs.declared.Verdict.{Verdict}
-use Rattle.job.specs.Table.{questionRow}
+use Rattle.refusal.proofs.Order.{then-told, when-told}
 use borrow.Author.Needs.{needs}
 use Rattle.job.proofs.question_and_room.Statement.{statement}
 use Rattle.job.proofs.question_and_room.Tie as tie
@@ -28,10 +24,7 @@ returns : tie.Need-returns
 returns c =
     let b = c .before in
     let a = b .before .before in
-    let one = a .row .ensures ∙ ap (λ (t : Bool). when t Question) (a .before .bad-question .ensures) in
-    let two = b .row2 .ensures ∙ ap (λ (t : Bool). when t Room) (b .before .no-room .ensures) in
-    let joined : c .then .result ≡ (a .row .result then b .row2 .result) = c .then .ensures in
-    joined ∙ ap (λ (v : Verdict). v then b .row2 .result) one ∙ ap (λ (v : Verdict). questionRow (a .before .before .args .question) then v) two
+    then-told (c .then .ensures) (when-told Question (a .row .ensures) (a .before .bad-question .ensures)) (when-told Room (b .row2 .ensures) (b .before .no-room .ensures))
 
 pub question-and-room-spec : {M : Type 1} → statement M
 question-and-room-spec =

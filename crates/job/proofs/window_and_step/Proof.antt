@@ -1,10 +1,6 @@
 -- `job::window_and_step` meets its contract: row by row.
-use mathlib.Core.Path.{_≡_, ap, _∙_}
-use mathlib.Core.Bool.{Bool}
-use Rattle.refusal.specs.Rows.{when, _then_}
 use Rattle.refusal.specs.declared.Refusal.the-variants.{Window, Step}
-use Rattle.refusal.specs.declared.Verdict.{Verdict}
-use Rattle.job.specs.Table.{windowRow}
+use Rattle.refusal.proofs.Order.{then-told, when-told}
 use borrow.Author.Needs.{needs}
 use Rattle.job.proofs.window_and_step.Statement.{statement}
 use Rattle.job.proofs.window_and_step.Tie as tie
@@ -28,10 +24,7 @@ returns : tie.Need-returns
 returns c =
     let b = c .before in
     let a = b .before .before in
-    let one = a .row .ensures ∙ ap (λ (t : Bool). when t Window) (a .before .bad-window .ensures) in
-    let two = b .row2 .ensures ∙ ap (λ (t : Bool). when t Step) (b .before .bad-step .ensures) in
-    let joined : c .then .result ≡ (a .row .result then b .row2 .result) = c .then .ensures in
-    joined ∙ ap (λ (v : Verdict). v then b .row2 .result) one ∙ ap (λ (v : Verdict). windowRow (a .before .before .args .w) then v) two
+    then-told (c .then .ensures) (when-told Window (a .row .ensures) (a .before .bad-window .ensures)) (when-told Step (b .row2 .ensures) (b .before .bad-step .ensures))
 
 pub window-and-step-spec : {M : Type 1} → statement M
 window-and-step-spec =

@@ -1,0 +1,23 @@
+-- What came of a job, in the 32 bytes that a caller in another language lends for it (document 01, "Turned away").
+use Prim.Native.Nat.{ℕ}
+use mathlib.Core.Path.{_≡_}
+use mathlib.Core.List.{List, _++_}
+use lib.ListN.{length}
+use Rattle.words.specs.Little.{bytesOf}
+use Rattle.refusal.specs.Refusal.{numberOf, fieldOf, bitsOf}
+use Rattle.job.specs.declared.Outcome.{Outcome}
+use Rattle.job.specs.declared.Outcome.the-variants.{Listed, Refused}
+use Rattle.door.specs.declared.Answer.{Answer}
+
+-- no refusal is number 0; every refusal returns 0 intervals and 0 instants asked
+abbrev pub answerOf : Outcome → Answer
+answerOf (Listed intervals asked) = record { refusal = 0; field = 0; number = 0; intervals = intervals; asked = asked }
+answerOf (Refused r) = record { refusal = numberOf r; field = fieldOf r; number = bitsOf r; intervals = 0; asked = 0 }
+
+-- 32 bytes: refusal u32, field u32, the returned number's bits u64, intervals u64, instants asked u64
+unfoldable pub answerBytes : Answer → List ℕ
+answerBytes a = bytesOf 4 (a .refusal) ++ bytesOf 4 (a .field) ++ bytesOf 8 (a .number) ++ bytesOf 8 (a .intervals) ++ bytesOf 8 (a .asked)
+
+-- as long as an answer
+abbrev pub AnswerSized : List ℕ → Type 0
+AnswerSized answer = length answer ≡ 32

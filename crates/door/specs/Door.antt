@@ -1,0 +1,24 @@
+-- What a call through the door returns and leaves behind: of the record's bytes, the list's and the answer's.
+use Prim.Native.Nat.{ℕ}
+use mathlib.Core.Bool.{Bool, cond}
+use mathlib.Core.List.{List}
+use lib.Dec.{eqb}
+use lib.ListN.{length}
+use Rattle.job.specs.Outcome.{outcomeOf, listAfter}
+use Rattle.door.specs.Answer.{answerOf, answerBytes}
+
+-- whether the caller lends 32 bytes for the answer
+abbrev pub heard : List ℕ → Bool
+heard answer = eqb (length answer) 32
+
+-- 1, or 0 where nothing at all is written
+unfoldable pub returnedOf : List ℕ → ℕ
+returnedOf answer = cond (heard answer) 1 0
+
+-- the list as `job` leaves it
+unfoldable pub listBehind : List ℕ → List ℕ → List ℕ → List ℕ
+listBehind s list answer = cond (heard answer) (listAfter s list) list
+
+-- what came of the job
+unfoldable pub answerBehind : List ℕ → List ℕ → List ℕ → List ℕ
+answerBehind s list answer = cond (heard answer) (answerBytes (answerOf (outcomeOf s (length list)))) answer

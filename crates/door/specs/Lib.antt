@@ -1,0 +1,3 @@
+-- The definitions of the door.
+pub mod Answer
+pub mod Door

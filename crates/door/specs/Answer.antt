@@ -1,9 +1,9 @@
 -- What came of a job, in the 32 bytes that a caller in another language lends for it (document 01, "Turned away").
-use Prim.Native.Nat.{ℕ}
+use Prim.Native.Nat.{ℕ, _^_, _<_}
 use mathlib.Core.Path.{_≡_}
 use mathlib.Core.List.{List, _++_}
 use lib.ListN.{length}
-use Rattle.words.specs.Little.{bytesOf}
+use Rattle.words.specs.Little.{bytesOf, readOf}
 use Rattle.refusal.specs.Refusal.{numberOf, fieldOf, bitsOf}
 use Rattle.job.specs.declared.Outcome.{Outcome}
 use Rattle.job.specs.declared.Outcome.the-variants.{Listed, Refused}
@@ -21,3 +21,15 @@ answerBytes a = bytesOf 4 (a .refusal) ++ bytesOf 4 (a .field) ++ bytesOf 8 (a .
 -- as long as an answer
 abbrev pub AnswerSized : List ℕ → Type 0
 AnswerSized answer = length answer ≡ 32
+
+-- its numbers are u32, u32, u64, u64 and u64
+pub record Sized (a : Answer) : Type 0 where
+  pub refusal-fits : a .refusal < 256 ^ 4
+  pub field-fits : a .field < 256 ^ 4
+  pub number-fits : a .number < 256 ^ 8
+  pub intervals-fits : a .intervals < 256 ^ 8
+  pub asked-fits : a .asked < 256 ^ 8
+
+-- the answer in 32 bytes
+unfoldable pub answerIn : List ℕ → Answer
+answerIn s = record { refusal = readOf 4 s 0; field = readOf 4 s 4; number = readOf 8 s 8; intervals = readOf 8 s 16; asked = readOf 8 s 24 }

@@ -4,11 +4,11 @@ use mathlib.Core.Path.{_≡_, refl, sym, ap, _∙_}
 use mathlib.Core.List.{List, [], _++_, append-assoc, append-nil}
 use native.Mathlib.Omega.{arith}
 use lib.ListN.{length, drop, length-append}
-use lib.Seq.{sets-eq, drop-length, take-at, drop-at}
+use lib.Seq.{sets-eq, drop-length}
 use borrow.Author.Tests.{eq-eqb, ne-eqb}
 use Rattle.words.specs.Little.{bytesOf, readOf, putOf, Bytes}
 use Rattle.words.proofs.Stores.{sets-append}
-use Rattle.words.proofs.Laws.{length-bytes, number-bytes, put-read}
+use Rattle.words.proofs.Laws.{length-bytes, put-read, read-among}
 use Rattle.interval.specs.declared.Interval.{Interval}
 use Rattle.interval.specs.declared.Parsed.the-variants.{Record, NoRecord}
 use Rattle.interval.specs.Record.{recordBytes, recordOf, parsedOf, writeOf, Sized}
@@ -55,12 +55,6 @@ module _ (s : List ℕ) (b : Bytes s) (n : length s ≡ 24) where
 
 -- ---- and the other way: a record is read as it was written
 
--- a number among bytes
-part : (n x : ℕ) (s p q : List ℕ) (at : ℕ) → x < 256 ^ n → length p ≡ at → s ≡ p ++ (bytesOf n x ++ q) → readOf n s at ≡ x
-unfolding readOf
-part n x s p q at small long is =
-    rw (is, drop-at p (bytesOf n x ++ q) at long, take-at (bytesOf n x) q n (length-bytes n x)) (number-bytes n x small)
-
 pub read-back : (r : Interval) → Sized r → recordOf (recordBytes r) ≡ r
 unfolding recordOf recordBytes
 read-back r z =
@@ -69,8 +63,8 @@ read-back r z =
     let c = bytesOf 8 (r .first) in
     let d = bytesOf 8 (r .last) in
     let s = a ++ b ++ c ++ d in
-    let job : readOf 4 s 0 ≡ r .job = part 4 (r .job) s [] (b ++ (c ++ d)) 0 (z .job-fits) refl (simp append-assoc) in
-    let flags : readOf 4 s 4 ≡ r .flags = part 4 (r .flags) s a (c ++ d) 4 (z .flags-fits) (length-bytes 4 (r .job)) (simp append-assoc) in
-    let first : readOf 8 s 8 ≡ r .first = part 8 (r .first) s (a ++ b) d 8 (z .first-fits) (simp (length-append, length-bytes)) (simp append-assoc) in
-    let last : readOf 8 s 16 ≡ r .last = part 8 (r .last) s (a ++ b ++ c) [] 16 (z .last-fits) (simp (length-append, length-bytes)) (simp (append-assoc, append-nil)) in
+    let job : readOf 4 s 0 ≡ r .job = read-among 4 (r .job) s [] (b ++ (c ++ d)) 0 (z .job-fits) refl (simp append-assoc) in
+    let flags : readOf 4 s 4 ≡ r .flags = read-among 4 (r .flags) s a (c ++ d) 4 (z .flags-fits) (length-bytes 4 (r .job)) (simp append-assoc) in
+    let first : readOf 8 s 8 ≡ r .first = read-among 8 (r .first) s (a ++ b) d 8 (z .first-fits) (simp (length-append, length-bytes)) (simp append-assoc) in
+    let last : readOf 8 s 16 ≡ r .last = read-among 8 (r .last) s (a ++ b ++ c) [] 16 (z .last-fits) (simp (length-append, length-bytes)) (simp (append-assoc, append-nil)) in
     λ i. record { job = job i; flags = flags i; first = first i; last = last i }

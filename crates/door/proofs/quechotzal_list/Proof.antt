@@ -1,5 +1,6 @@
 -- `door::quechotzal_list` meets its contract: by the length of the lent answer.
 use mathlib.Core.Path.{sym, ap, _∙_}
+use native.Mathlib.Omega.{arith}
 use Rattle.door.specs.Answer.{answerOf, answerBytes}
 use Rattle.door.proofs.Heard.{heard-all, unheard-all}
 use borrow.Author.Needs.{needs}
@@ -9,7 +10,7 @@ use Rattle.door.proofs.quechotzal_list.Tie as tie
 returns : tie.Need-returns
 returns c =
     let a = c .before .before .before .before .args in
-    let u = unheard-all (a .«record» .now) (a .list .now) (a .answer .now) (c .if1 .taken) in
+    let u = unheard-all (a .«record» .now) (a .list .now) (a .answer .now) (λ long. omega (arith, long, c .if1 .taken)) in
     (sym (u .0), (sym (u .1), sym (u .2)))
 
 list-requires : tie.Need-list-requires
@@ -34,7 +35,7 @@ returns-2 c =
     let listed = told .before .before .before in
     let i = listed .before .before .before in
     let a = i .before .before .before .before .args in
-    let h = heard-all (a .«record» .now) (a .list .now) (a .answer .now) (i .if1 .left) in
+    let h = heard-all (a .«record» .now) (a .list .now) (a .answer .now) (omega (arith, i .if1 .left)) in
     let came = wrote .write .ensures ∙ ap answerBytes (told .answer-of .ensures ∙ ap answerOf (listed .list .ensures .0)) in
     (sym (h .0), (listed .list .ensures .1 ∙ sym (h .1), came ∙ sym (h .2)))
 

@@ -5,7 +5,7 @@ use mathlib.Core.Bool.{Bool, true, false, cond}
 use Prim.Native.Nat.{ℕ, zero, suc, _+_, _-_, _*_, _/_, _%_, _≤_, _<_}
 use native.Mathlib.Nat.{le-trans, mul-le-mul-left, div-le-of-le-mul, mul-comm, eq-or-lt-of-le}
 use native.Mathlib.Omega.{arith}
-use borrow.Author.Tests.{ne-eqb}
+use borrow.Author.Tests.{eq-eqb, ne-eqb}
 use lib.Dec.{eqb, ltb}
 use lib.IntN.{pos, negℤ, natAbs}
 use Rattle.fixed.specs.Within.{Small}
@@ -69,6 +69,16 @@ reading-le g h =
 cond-le : (b : Bool) (x y m : ℕ) → x ≤ m → y ≤ m → cond b x y ≤ m
 cond-le true x y m h k = h
 cond-le false x y m h k = k
+
+-- g = f for even j
+pub fold-even : (θ : ℕ) → quadrantOf θ % 2 ≡ 0 → foldOf θ ≡ θ % quarterTurn
+unfolding foldOf
+fold-even θ even = rw (eq-eqb (quadrantOf θ % 2) 0 even)
+
+-- g = 2^30 − f for odd j
+pub fold-odd : (θ : ℕ) → (quadrantOf θ % 2 ≡ 0 → ⊥) → foldOf θ ≡ quarterTurn - θ % quarterTurn
+unfolding foldOf
+fold-odd θ odd = rw (ne-eqb (quadrantOf θ % 2) 0 odd)
 
 pub fold-le : (θ : ℕ) → foldOf θ ≤ quarterTurn
 unfolding foldOf

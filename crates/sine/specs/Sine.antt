@@ -49,9 +49,9 @@ wayOf a b r = a + (b - a) * r / segment
 abbrev pub OnTheWay : ℕ → ℕ → ℕ → Type 0
 OnTheWay a b r = (a ≤ b) × (r < segment)
 
--- g lies in the first quarter turn, its end included
+-- g lies in the first quarter turn, before its end
 abbrev pub InQuarter : ℕ → Type 0
-InQuarter g = g ≤ quarterTurn
+InQuarter g = g < quarterTurn
 
 -- k = floor(g/2^20), r the rest: the way from entry k to entry k+1; at g = 2^30 entry 1024
 unfoldable pub readingOf : ℕ → ℕ

@@ -36,28 +36,29 @@ fn way(low: u32, high: u32, r: u32) -> u32
     low + (rise * (r as u64) / (SEGMENT as u64)) as u32
 }
 
-// The reading at g units of the first quarter turn.
+// The reading at g units of the first quarter turn, before its end.
 fn reading(t: &[u32], g: u32) -> u32
     requires { ⌜ (now t ≡ sines) × (InQuarter g) ⌝ }
     ensures { λ r. ⌜ r ≡ readingOf g ⌝ }
 {
-    if g == Angle::QUARTER.units {
-        return entry(t, SEGMENTS);
-    }
     let k = g / SEGMENT;
     way(entry(t, k), entry(t, k + 1), g % SEGMENT)
 }
 
-// The angle folded into the first quarter turn.
-fn fold(theta: Angle) -> u32
-    ensures { λ r. ⌜ r ≡ foldOf (theta .units) ⌝ }
+// The sine's size: the reading at the angle folded into the first quarter turn. That an odd quadrant is read backward is a branch, and only there
+// the quarter's end is met: a search that stays in a quadrant has both foreseen.
+fn size(t: &[u32], theta: Angle) -> u32
+    requires { ⌜ now t ≡ sines ⌝ }
+    ensures { λ r. ⌜ r ≡ readingOf (foldOf (theta .units)) ⌝ }
 {
     let f = theta.units % Angle::QUARTER.units;
     if theta.units / Angle::QUARTER.units % 2 == 0 {
-        f
-    } else {
-        Angle::QUARTER.units - f
+        return reading(t, f);
     }
+    if f == 0 {
+        return entry(t, SEGMENTS);
+    }
+    reading(t, Angle::QUARTER.units - f)
 }
 
 // The sine, in units of 2^-30.
@@ -65,7 +66,7 @@ pub fn sine(t: &[u32], theta: Angle) -> i64
     requires { ⌜ now t ≡ sines ⌝ }
     ensures { λ r. ⌜ r ≡ sineOf (theta .units) ⌝ }
 {
-    let s = reading(t, fold(theta)) as i64;
+    let s = size(t, theta) as i64;
     if theta.units < Angle::HALF.units {
         s
     } else {

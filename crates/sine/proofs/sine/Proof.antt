@@ -1,5 +1,5 @@
 -- `sine::sine` meets its contract: the reading is at most one, so that it and its negation are the signed numbers they stand for.
-use mathlib.Core.Path.{_≡_, _∙_, ap}
+use mathlib.Core.Path.{_≡_}
 use Prim.Native.Nat.{ℕ}
 use native.Mathlib.Omega.{arith}
 use lib.IntN.{pos}
@@ -15,17 +15,12 @@ use Rattle.sine.proofs.Laws.{fold-le, reading-le}
 use Rattle.sine.proofs.sine.Statement.{statement}
 use Rattle.sine.proofs.sine.Tie as tie
 
--- what the call of `reading` gave, as a signed number
-read : (q g θ : ℕ) → q ≡ readingOf g → g ≡ foldOf θ → Is (toZ w64 q) (pos (readingOf (foldOf θ))) one
-read q g θ e f =
-    let is : q ≡ readingOf (foldOf θ) = e ∙ ap readingOf f in
-    rw is (cast (reading-le (foldOf θ) (fold-le θ)) tt)
+-- what the call of `size` gave, as a signed number
+read : (q θ : ℕ) → q ≡ readingOf (foldOf θ) → Is (toZ w64 q) (pos (readingOf (foldOf θ))) one
+read q θ is = rw is (cast (reading-le (foldOf θ) (fold-le θ)) tt)
 
-fold-requires : tie.Need-fold-requires
-fold-requires c κs = search needs
-
-reading-requires : tie.Need-reading-requires
-reading-requires c κs = (c .before .before .pre, omega (arith, c .fold .ensures, fold-le (c .before .before .args .theta .units)))
+size-requires : tie.Need-size-requires
+size-requires c κs = search needs
 
 cast-s : tie.Need-cast-s
 cast-s c = search needs
@@ -33,21 +28,21 @@ cast-s c = search needs
 sub-result : tie.Need-sub-result
 sub-result c =
     let r = c .before .before .before in
-    fit (negation (read _ _ _ (r .reading .ensures) (r .before .fold .ensures))) tt
+    fit (negation (read _ _ (r .size .ensures))) tt
 
 returns : tie.Need-returns
 unfolding sineOf
 returns c =
     let r = c .before .before .before in
-    let θ = r .before .before .before .args .theta .units in
-    simp (lt-ltb (quadrantOf θ) 2 (omega arith)) (read _ _ _ (r .reading .ensures) (r .before .fold .ensures) .is)
+    let θ = r .before .before .args .theta .units in
+    simp (lt-ltb (quadrantOf θ) 2 (omega arith)) (read _ _ (r .size .ensures) .is)
 
 returns-2 : tie.Need-returns-2
 unfolding sineOf
 returns-2 c =
     let r = c .before .before .before in
-    let θ = r .before .before .before .args .theta .units in
-    simp (le-ltb (quadrantOf θ) 2 (omega arith)) (held (negation (read _ _ _ (r .reading .ensures) (r .before .fold .ensures))) tt .is)
+    let θ = r .before .before .args .theta .units in
+    simp (le-ltb (quadrantOf θ) 2 (omega arith)) (held (negation (read _ _ (r .size .ensures))) tt .is)
 
 pub sine-spec : {M : Type 1} → statement M
-sine-spec = tie.close (tie.spec fold-requires reading-requires cast-s sub-result returns returns-2)
+sine-spec = tie.close (tie.spec size-requires cast-s sub-result returns returns-2)

@@ -3,7 +3,7 @@
 //!
 //! - 000: NASA TN D-5104, the program VAMOOS. Orbits of Venus, appendix C.
 //! - 002: visibility of a planetary satellite from a tracking station, the program OCCULT. An orbit of Mars, "An example", page 11.
-//! - 003: area coverage by orbital photoimaging systems. An orbit of Mars, table III, page 23.
+//! - 003: area coverage by orbital photoimaging systems. An orbit of Mars, table III.
 //! - 004: NASA TM X-65750, IMP-6. Orbits of the Earth, appendix C, page 62 on.
 //!
 //! 001 is a manual and prints no results. The texts are read from scans; where a digit was misread, a comment says so.

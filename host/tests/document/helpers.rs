@@ -1,0 +1,158 @@
+//! What the tests share: job 7, refusals, random numbers.
+
+use host::record::{Interval, Job, INTERVAL};
+use host::{list, Answer};
+
+/// Document 01, One job whole: job 7.
+pub fn job7() -> Job {
+    let mut fields = [0.0; 13];
+    fields[0] = 10000.0;
+    fields[5] = 7200.0;
+    fields[6] = 5000.0;
+    Job {
+        job: 7,
+        word: 0,
+        fields,
+        t0: 0,
+        t1: 7_200_000,
+        step: 600_000,
+        question: 1,
+    }
+}
+
+/// Job 7 with another window.
+pub fn job7_in(t0: u64, t1: u64, step: u32) -> Job {
+    Job {
+        t0,
+        t1,
+        step,
+        ..job7()
+    }
+}
+
+/// A byte no list begins with, to see what is kept.
+pub const KEPT: u8 = 0xA5;
+/// Room for the longest list.
+pub const ROOM: usize = 24 * 2049;
+
+pub fn refused(refusal: u32, field: u32, number: u64) -> Answer {
+    Answer {
+        refusal,
+        field,
+        number,
+        intervals: 0,
+        asked: 0,
+    }
+}
+
+pub fn listed(intervals: u64, asked: u64) -> Answer {
+    Answer {
+        refusal: 0,
+        field: 0,
+        number: 0,
+        intervals,
+        asked,
+    }
+}
+
+/// The answer for any bytes and room; what must be kept is checked here.
+pub fn answer_of(record: &[u8], room: usize) -> (Answer, Vec<Interval>) {
+    let mut buffer = vec![KEPT; room];
+    let answer = list(record, &mut buffer);
+    let written = answer.intervals as usize * INTERVAL;
+    assert!(
+        buffer[written..].iter().all(|&b| b == KEPT),
+        "a byte was changed"
+    );
+    let intervals = buffer[..written].chunks(INTERVAL);
+    (
+        answer,
+        intervals.map(|b| Interval::decode(b).unwrap()).collect(),
+    )
+}
+
+pub fn run(job: &Job) -> (Answer, Vec<Interval>) {
+    answer_of(&job.encode(), ROOM)
+}
+
+pub fn interval(flags: u32, first: u64, last: u64) -> Interval {
+    Interval {
+        job: 7,
+        flags,
+        first,
+        last,
+    }
+}
+
+/// Document 01's accepted column, written out again: least, most, most accepted.
+pub const ACCEPTED: [(f64, f64, bool); 13] = [
+    (100.0, 250000.0, true),
+    (0.0, 0.95, true),
+    (0.0, 180.0, true),
+    (0.0, 360.0, false),
+    (0.0, 360.0, false),
+    (60.0, 2000000.0, true),
+    (1.0, 100000.0, true),
+    (0.0, 360.0, false),
+    (-90.0, 90.0, true),
+    (-90.0, 90.0, true),
+    (0.0, 360.0, false),
+    (0.0, 360.0, false),
+    (0.0, 90.0, true),
+];
+
+/// Splitmix: the same jobs on every run.
+pub struct Random(pub u64);
+
+impl Random {
+    pub fn next(&mut self) -> u64 {
+        self.0 = self.0.wrapping_add(0x9E37_79B9_7F4A_7C15);
+        let mut z = self.0;
+        z = (z ^ (z >> 30)).wrapping_mul(0xBF58_476D_1CE4_E5B9);
+        z = (z ^ (z >> 27)).wrapping_mul(0x94D0_49BB_1331_11EB);
+        z ^ (z >> 31)
+    }
+
+    pub fn below(&mut self, n: u64) -> u64 {
+        self.next() % n
+    }
+
+    pub fn float(&mut self, least: f64, most: f64) -> f64 {
+        let part = (self.next() >> 11) as f64 / (1u64 << 53) as f64;
+        (least + part * (most - least)).min(most.next_down())
+    }
+
+    /// Great and small alike.
+    pub fn spread(&mut self, least: f64, most: f64) -> f64 {
+        let log = self.float(least.ln(), most.ln());
+        log.exp().clamp(least, most)
+    }
+
+    /// An accepted job of some tens of samples.
+    pub fn job(&mut self) -> Job {
+        let mut fields = [0.0; 13];
+        for (field, (least, most, _)) in fields.iter_mut().zip(ACCEPTED) {
+            *field = self.float(least, most);
+        }
+        fields[0] = self.spread(100.0, 100_000.0);
+        fields[1] = fields[1] * fields[1]; // shadows are rare at great e
+        fields[5] = self.spread(60.0, 2_000_000.0);
+        fields[12] = self.float(0.0, 20.0);
+        let closest = fields[0] * (1.0 - fields[1]);
+        fields[6] = (closest * self.float(0.5, 0.9999)).clamp(1.0, 100_000.0);
+        let period = fields[5] * 1000.0;
+        let step = self.spread(period / 50.0, period * 2.0);
+        let step = step.clamp(1.0, 1_048_576.0) as u32;
+        let length = 1 + self.below(u64::from(step) * 80);
+        let t0 = self.below(2_678_400_000 - length);
+        Job {
+            job: self.next() as u32,
+            word: 0,
+            fields,
+            t0,
+            t1: t0 + length,
+            step,
+            question: 1 + self.below(2) as u32,
+        }
+    }
+}

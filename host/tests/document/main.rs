@@ -1,0 +1,17 @@
+//! Document 01's own numbers, its refusals and lists, and properties over seeded pseudo-random jobs: a file for each paragraph.
+
+#![allow(non_snake_case)]
+
+mod helpers;
+mod marked;
+mod place;
+mod program;
+mod properties;
+mod record;
+mod refusal;
+mod runs;
+mod scaled;
+mod search;
+mod sight;
+mod sine;
+mod whole;

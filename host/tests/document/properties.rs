@@ -1,0 +1,226 @@
+//! What has to hold of any job, over seeded pseudo-random ones.
+
+use crate::helpers::*;
+use host::program;
+use host::record::{Interval, Job, INTERVAL, ORBIT};
+use host::search::{find, Window};
+use host::sight::Sight;
+use std::cell::Cell;
+
+/// The samples: t0, t0+step, .., and t1 last.
+fn samples(job: &Job) -> Vec<u64> {
+    let mut samples: Vec<u64> = (job.t0..job.t1).step_by(job.step as usize).collect();
+    samples.push(job.t1);
+    samples
+}
+
+/// Every property of one list; how many changed steps it had.
+fn check_list(job: &Job) -> usize {
+    let sight = Sight::of(job);
+    let (answer, intervals) = run(job);
+    assert_eq!(answer.refusal, 0);
+    check_intervals(job, &sight, &intervals);
+    let samples = samples(job);
+    for &t in &samples {
+        let inside = intervals.iter().any(|i| i.first <= t && t <= i.last);
+        assert_eq!(inside, sight.answer(t), "sample {t}");
+    }
+    let steps = samples.windows(2);
+    let changed = steps
+        .map(|step| check_step(step[0], step[1], &sight, &intervals))
+        .sum();
+    let (asked, sampled) = (answer.asked as usize, samples.len());
+    assert!(sampled <= asked && asked <= sampled + 20 * changed);
+    assert_eq!(answer.asked, counted(job, &sight));
+    changed
+}
+
+/// In order, inside the window, an instant between neighbours, and the answer
+/// changes at each end.
+fn check_intervals(job: &Job, sight: &Sight, intervals: &[Interval]) {
+    for each in intervals {
+        assert!(job.t0 <= each.first && each.first <= each.last && each.last <= job.t1);
+        let flags = u32::from(each.first == job.t0) + 2 * u32::from(each.last == job.t1);
+        assert_eq!((each.job, each.flags), (job.job, flags));
+        assert!(sight.answer(each.first) && sight.answer(each.last));
+        assert!(each.first == job.t0 || !sight.answer(each.first - 1));
+        assert!(each.last == job.t1 || !sight.answer(each.last + 1));
+    }
+    for pair in intervals.windows(2) {
+        assert!(pair[0].last + 1 < pair[1].first, "neighbours touch");
+    }
+}
+
+/// A changed step holds one change, another none; 1 if changed.
+fn check_step(low: u64, high: u64, sight: &Sight, intervals: &[Interval]) -> usize {
+    let first_here = |i: &&Interval| low < i.first && i.first <= high;
+    let last_here = |i: &&Interval| low <= i.last && i.last < high;
+    let firsts = intervals.iter().filter(first_here).count();
+    let lasts = intervals.iter().filter(last_here).count();
+    let (before, after) = (sight.answer(low), sight.answer(high));
+    assert_eq!(firsts, usize::from(!before && after), "{low} to {high}");
+    assert_eq!(lasts, usize::from(before && !after), "{low} to {high}");
+    firsts + lasts
+}
+
+/// The instants asked, counted by the one who answers.
+fn counted(job: &Job, sight: &Sight) -> u64 {
+    let count = Cell::new(0);
+    let window = Window {
+        t0: job.t0,
+        t1: job.t1,
+        step: u64::from(job.step),
+    };
+    let answer = |t| {
+        count.set(count.get() + 1);
+        sight.answer(t)
+    };
+    find(window, answer, |_, _| ());
+    count.get()
+}
+
+#[test]
+fn lists_of_random_jobs() {
+    let mut random = Random(6);
+    let (mut changed, mut with_two) = (0, 0);
+    for _ in 0..600 {
+        let of_job = check_list(&random.job());
+        changed += of_job;
+        with_two += usize::from(of_job >= 2);
+    }
+    assert!(
+        changed > 1000 && with_two > 80,
+        "too tame: {changed}, {with_two}"
+    );
+}
+
+#[test]
+fn answers_agree_with_floats_away_from_the_border() {
+    let mut random = Random(7);
+    let (mut hidden, mut up, mut near) = (0, 0, 0);
+    for _ in 0..400 {
+        let job = random.job();
+        let sight = Sight::of(&job);
+        for _ in 0..20 {
+            let t = random.below(2_678_400_000);
+            let (shadow, height) = by_floats(&job.fields, t);
+            if shadow.abs() < 1e-4 || height.abs() < 1e-4 {
+                near += 1;
+                continue;
+            }
+            assert_eq!(sight.shadow.hidden(t), shadow > 0.0, "{job:?} at {t}");
+            assert_eq!(sight.station.up(t), height > 0.0, "{job:?} at {t}");
+            assert_eq!(sight.visible(t), height > 0.0 && shadow < 0.0);
+            hidden += usize::from(shadow > 0.0);
+            up += usize::from(height > 0.0);
+        }
+    }
+    assert!(
+        hidden > 300 && up > 300 && near < 100,
+        "{hidden}, {up}, {near}"
+    );
+}
+
+/// The same questions in floats and another way round: the place turned into
+/// the equator's frame step by step. Positive: hidden, up.
+fn by_floats(fields: &[f64; 13], t: u64) -> (f64, f64) {
+    let rad = |k: usize| fields[k - 1].to_radians();
+    let (a, e, R) = (fields[0], fields[1], fields[6]);
+    let p = (fields[5] * 1000.0 + 0.5).floor();
+    let turn = 2.0 * std::f64::consts::PI;
+    let M = (t as f64 % p) / p * turn;
+    let (mut low, mut high) = (0.0, turn);
+    for _ in 0..60 {
+        let middle = (low + high) / 2.0;
+        if middle - e * f64::sin(middle) <= M {
+            low = middle;
+        } else {
+            high = middle;
+        }
+    }
+    let place = [
+        a * (low.cos() - e),
+        a * (1.0 - e * e).sqrt() * low.sin(),
+        0.0,
+    ];
+    let place = about_z(about_x(about_z(place, rad(5)), rad(3)), rad(4));
+    let E = about_z(about_y([1.0, 0.0, 0.0], rad(9)), rad(8));
+    let d = dot(place, E);
+    let off = (dot(place, place) - d * d).max(0.0).sqrt();
+    let shadow = ((R - off) / a).min(-d / a);
+    let day = (t % 86_400_000) as f64 / 86_400_000.0 * turn;
+    let u = about_z(about_y([1.0, 0.0, 0.0], rad(10)), rad(11) + rad(12) + day);
+    (shadow, -dot(u, E) - rad(13).sin())
+}
+
+fn dot(a: [f64; 3], b: [f64; 3]) -> f64 {
+    a[0] * b[0] + a[1] * b[1] + a[2] * b[2]
+}
+
+fn about_z([x, y, z]: [f64; 3], by: f64) -> [f64; 3] {
+    let (s, c) = by.sin_cos();
+    [c * x - s * y, s * x + c * y, z]
+}
+
+fn about_x([x, y, z]: [f64; 3], by: f64) -> [f64; 3] {
+    let (s, c) = by.sin_cos();
+    [x, c * y - s * z, s * y + c * z]
+}
+
+/// Lifts the x axis toward z.
+fn about_y([x, y, z]: [f64; 3], by: f64) -> [f64; 3] {
+    let (s, c) = by.sin_cos();
+    [c * x - s * z, y, s * x + c * z]
+}
+
+#[test]
+fn every_corner_of_the_ranges() {
+    let mut accepted = 0;
+    for corner in 0..1u32 << 14 {
+        let mut job = job7_in(2_678_000_000, 2_678_400_000, 200_001);
+        for (k, (least, most, with_most)) in ACCEPTED.into_iter().enumerate() {
+            let top = if with_most { most } else { most.next_down() };
+            job.fields[k] = if corner >> k & 1 == 0 { least } else { top };
+        }
+        job.question = 1 + (corner >> 13);
+        let (answer, _) = run(&job);
+        assert!(answer.refusal == 0 || answer.refusal == 5);
+        accepted += u32::from(answer.refusal == 0);
+    }
+    // Closest distances 100, 5, 250,000 and 12,500 km against radii of 1 and
+    // 100,000 km: five of the eight pairs are accepted.
+    assert_eq!(accepted, (1 << 14) / 8 * 5);
+}
+
+#[test]
+fn any_bytes_are_answered() {
+    let mut random = Random(8);
+    let mut refusals = [0; 11];
+    for round in 0..4000 {
+        let mut record = random.job().encode();
+        for _ in 0..random.below(4) {
+            let at = random.below(ORBIT as u64) as usize;
+            record[at] = random.next() as u8;
+        }
+        if round % 10 == 1 {
+            let at = 8 + 8 * random.below(13) as usize;
+            record[at + 6..at + 8].copy_from_slice(&[0xF7, 0x7F]); // a NaN
+        }
+        if round % 10 == 0 {
+            record = std::array::from_fn(|_| random.next() as u8);
+        }
+        let room = random.below(2500) as usize;
+        let (answer, intervals) = answer_of(&record, room);
+        assert_eq!(answer.intervals, intervals.len() as u64);
+        assert_eq!(answer.refusal == 0, answer.asked > 0);
+        refusals[answer.refusal as usize] += 1;
+    }
+    for number in [0, 2, 3, 4, 5, 6, 7, 8, 9] {
+        assert!(refusals[number] > 0, "{refusals:?}");
+    }
+    let noise: Vec<u8> = (0..5000).map(|_| random.next() as u8).collect();
+    for length in [0usize, 1, 135, 136, 137, 272, 5000] {
+        let records = length.div_ceil(ORBIT);
+        assert_eq!(program(&noise[..length]).len(), records * INTERVAL);
+    }
+}

@@ -1,0 +1,34 @@
+//! Document 01, What the desk feeds and gets: the two records.
+
+use crate::helpers::*;
+use host::record::{Interval, Job, INTERVAL, ORBIT};
+
+#[test]
+fn records_read_and_write_back() {
+    let mut random = Random(4);
+    for _ in 0..500 {
+        let orbit: Vec<u8> = (0..ORBIT).map(|_| random.next() as u8).collect();
+        assert_eq!(Job::decode(&orbit).unwrap().encode()[..], orbit[..]);
+        let bytes: Vec<u8> = (0..INTERVAL).map(|_| random.next() as u8).collect();
+        assert_eq!(Interval::decode(&bytes).unwrap().encode()[..], bytes[..]);
+    }
+    for length in (0..200).filter(|&length| length != INTERVAL) {
+        assert_eq!(Interval::decode(&vec![0; length]), None);
+    }
+}
+
+#[test]
+fn record_places() {
+    let mut bytes = [0; ORBIT];
+    bytes[0] = 1;
+    bytes[7] = 2;
+    bytes[8 + 8 * 12..][..8].copy_from_slice(&1.5f64.to_le_bytes());
+    bytes[112] = 3;
+    bytes[127] = 4;
+    bytes[129] = 5;
+    bytes[132] = 6;
+    let job = Job::decode(&bytes).unwrap();
+    assert_eq!((job.job, job.word, job.fields[12]), (1, 2 << 24, 1.5));
+    assert_eq!((job.t0, job.t1), (3, 4 << 56));
+    assert_eq!((job.step, job.question), (5 << 8, 6));
+}

@@ -1,0 +1,89 @@
+//! Document 01, One job whole.
+
+use crate::record::{Interval, Job, INTERVAL};
+use crate::refusal::{check, Refusal};
+use crate::search::{find, Found, Window};
+use crate::sight::Sight;
+
+/// What a job answers: document 01's table, or a list.
+#[derive(Debug, Clone, Copy, PartialEq, Eq)]
+pub struct Answer {
+    /// The refusal's number; 0: none.
+    pub refusal: u32,
+    pub field: u32,
+    /// The bits of the number returned.
+    pub number: u64,
+    pub intervals: u64,
+    pub asked: u64,
+}
+
+/// One job whole: any bytes as record, any lent list. Writes the interval
+/// records from byte 0 on success, and nothing else.
+pub fn list(record: &[u8], list: &mut [u8]) -> Answer {
+    match accepted(record, list.len()) {
+        Ok((job, sight)) => {
+            let Found { intervals, asked } = write(&job, &sight, list);
+            Answer {
+                refusal: 0,
+                field: 0,
+                number: 0,
+                intervals,
+                asked,
+            }
+        }
+        Err(refusal) => {
+            let (refusal, field, number) = refusal.row();
+            Answer {
+                refusal,
+                field,
+                number,
+                intervals: 0,
+                asked: 0,
+            }
+        }
+    }
+}
+
+/// Document 01, Turned away: rows 1 to 9, then 10. Each halving of 0..2^32
+/// leaves half the width whatever the answers, so one search shows all.
+fn accepted(record: &[u8], room: usize) -> Result<(Job, Sight), Refusal> {
+    let job = check(record, room)?;
+    let sight = Sight::of(&job);
+    if sight.shadow.place.width(job.t0) > 1 {
+        return Err(Refusal::Kepler);
+    }
+    Ok((job, sight))
+}
+
+/// Writes the accepted job's intervals one after the other. The room, tested
+/// in row 9, is enough: every interval holds a sample with a yes, and between
+/// two intervals lies a sample with a no, so there are at most ceil((n+1)/2).
+fn write(job: &Job, sight: &Sight, list: &mut [u8]) -> Found {
+    let window = Window {
+        t0: job.t0,
+        t1: job.t1,
+        step: u64::from(job.step),
+    };
+    let mut places = list.chunks_exact_mut(INTERVAL);
+    find(
+        window,
+        |t| sight.answer(t),
+        |first, last| {
+            if let Some(place) = places.next() {
+                place.copy_from_slice(&interval(job, first, last).encode());
+            }
+        },
+    )
+}
+
+/// Document 01, What the desk feeds and gets: flag 1: first = t0; flag 2: last = t1.
+fn interval(job: &Job, first: u64, last: u64) -> Interval {
+    let at_start = u32::from(first == job.t0);
+    let at_end = u32::from(last == job.t1);
+    Interval {
+        job: job.job,
+        flags: at_start + 2 * at_end,
+        first,
+        last,
+    }
+}

@@ -1,0 +1,24 @@
+//! Document 01 once more, in plain Rust: an implementation written from the
+//! document alone, to be set against the proved one. One module for each
+//! heading; a comment at each rule names its place in the document.
+
+// The document's letters are kept: E (an anomaly) is not e (the eccentricity).
+#![allow(non_snake_case)]
+#![forbid(unsafe_code)]
+
+pub mod big;
+pub mod job;
+pub mod kepler;
+pub mod place;
+pub mod program;
+pub mod record;
+pub mod refusal;
+pub mod rotation;
+pub mod scaled;
+pub mod search;
+pub mod sight;
+pub mod sine;
+pub mod whole;
+
+pub use job::{list, Answer};
+pub use program::program;

@@ -1,0 +1,129 @@
+//! Document 01, Hidden and visible: the answer at one instant.
+
+use crate::place::Place;
+use crate::record::Job;
+use crate::rotation::{direction, rotation, sum, Row};
+use crate::scaled::{part_of_turn, scaled};
+use crate::sine::Sine;
+use crate::whole::Whole;
+
+/// A day, ms: the station makes one turn in it.
+pub const DAY: u32 = 86_400_000;
+
+fn square(x: i64) -> i128 {
+    i128::from(x) * i128::from(x)
+}
+
+/// What is fixed during a job for the question hidden.
+#[derive(Clone, Copy)]
+pub struct Shadow {
+    pub place: Place,
+    Ep: i64,
+    Eq: i64,
+    /// R²
+    R2: i128,
+}
+
+impl Shadow {
+    pub fn of(whole: &Whole) -> Shadow {
+        let sine = Sine::table();
+        let E = direction(sine, whole.ascension, whole.declination);
+        let [P, Q, _] = rotation(sine, whole.inclination, whole.node, whole.argument);
+        Shadow {
+            place: Place::of(whole),
+            Ep: sum(&P, &E),
+            Eq: sum(&Q, &E),
+            R2: square(whole.R),
+        }
+    }
+
+    /// Hidden when d < 0 and X² + Y² − d² < R², with d = X∘Ep + Y∘Eq.
+    #[inline]
+    pub fn hidden(&self, t: u64) -> bool {
+        let (X, Y) = self.place.at(t);
+        let d = scaled(X, self.Ep) + scaled(Y, self.Eq);
+        d < 0 && square(X) + square(Y) - square(d) < self.R2
+    }
+}
+
+/// What is fixed during a job for the station.
+#[derive(Clone, Copy)]
+pub struct Station {
+    sine: &'static Sine,
+    E: Row,
+    /// longitude + Greenwich, modulo 2^32
+    turn: u32,
+    /// cos lat
+    cos_lat: i64,
+    /// uz∘Ez
+    uzEz: i64,
+    /// sine of field 13
+    least: i64,
+}
+
+impl Station {
+    pub fn of(whole: &Whole) -> Station {
+        let sine = Sine::table();
+        let E = direction(sine, whole.ascension, whole.declination);
+        Station {
+            sine,
+            E,
+            turn: whole.longitude.wrapping_add(whole.greenwich),
+            cos_lat: sine.cos(whole.latitude),
+            uzEz: scaled(sine.sin(whole.latitude), E[2]),
+            least: sine.sin(whole.elevation),
+        }
+    }
+
+    /// τ, the station's turn, modulo 2^32.
+    #[inline]
+    pub fn tau(&self, t: u64) -> u32 {
+        self.turn.wrapping_add(part_of_turn(t, DAY))
+    }
+
+    /// Up: −(ux∘Ex + uy∘Ey + uz∘Ez) ≥ sine of field 13. The planet is seen
+    /// along −E, hence the minus.
+    #[inline]
+    pub fn up(&self, t: u64) -> bool {
+        let tau = self.tau(t);
+        let ux = scaled(self.cos_lat, self.sine.cos(tau));
+        let uy = scaled(self.cos_lat, self.sine.sin(tau));
+        -(scaled(ux, self.E[0]) + scaled(uy, self.E[1]) + self.uzEz) >= self.least
+    }
+}
+
+/// What is fixed during a job for its question.
+#[derive(Clone, Copy)]
+pub struct Sight {
+    pub shadow: Shadow,
+    pub station: Station,
+    question: u32,
+}
+
+impl Sight {
+    /// For an accepted job.
+    pub fn of(job: &Job) -> Sight {
+        let whole = Whole::of(&job.fields);
+        Sight {
+            shadow: Shadow::of(&whole),
+            station: Station::of(&whole),
+            question: job.question,
+        }
+    }
+
+    /// Visible: up and not hidden.
+    #[inline]
+    pub fn visible(&self, t: u64) -> bool {
+        self.station.up(t) && !self.shadow.hidden(t)
+    }
+
+    /// The question's yes or no at instant t: 1 hidden, 2 visible.
+    #[inline]
+    pub fn answer(&self, t: u64) -> bool {
+        if self.question == 1 {
+            self.shadow.hidden(t)
+        } else {
+            self.visible(t)
+        }
+    }
+}

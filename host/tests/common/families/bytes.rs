@@ -1,6 +1,6 @@
 //! Input that nobody meant.
 
-use super::super::jobs;
+use super::super::jobs::{self, LONGEST_LIST};
 use super::super::random::Random;
 use super::Pieces;
 use host::record::ORBIT;
@@ -41,9 +41,11 @@ pub fn bit_flips(random: &mut Random) -> Pieces {
     (0..1_000).map(flipped).collect()
 }
 
-/// Each bit of one record by itself.
+/// Each bit of one record by itself; the record has a list of several intervals.
 pub fn every_bit(random: &mut Random) -> Pieces {
-    let good = jobs::any(random).encode();
+    let several = |record: &[u8; ORBIT]| host::list(record, &mut [0; LONGEST_LIST]).intervals > 3;
+    let mut records = std::iter::repeat_with(|| jobs::any(random).encode());
+    let good = records.find(several).unwrap();
     let flipped = |bit| {
         let mut record = good.to_vec();
         flip(&mut record, bit);

@@ -1,0 +1,81 @@
+//! What is measured.
+
+use super::common::families;
+use super::common::jobs::{any, plausible, windowed, LONGEST_LIST, MARS, MOST_STEPS};
+use super::common::random::Random;
+use host::record::{Job, ORBIT};
+
+pub struct Case {
+    pub name: &'static str,
+    pub records: Vec<Vec<u8>>,
+    pub room: usize,
+}
+
+pub fn all() -> Vec<Case> {
+    let random = &mut Random::of("ratio");
+    let with_room = |room, name, records| Case {
+        name,
+        records,
+        room,
+    };
+    let case = |name, records| with_room(LONGEST_LIST, name, records);
+    vec![
+        case("few changes, question 1", few_changes(random, 1)),
+        case("few changes, question 2", few_changes(random, 2)),
+        case("a change in each step, question 1", each_step(random, 1)),
+        case("a change in each step, question 2", each_step(random, 2)),
+        case("10 steps", short(random, 10, 60_000)),
+        case("one step of 1 ms", short(random, 1, 1)),
+        case("refused: random bytes", families::random_bytes(random)),
+        case("refused: a short piece", vec![vec![0; ORBIT - 1]; 1_000]),
+        case("refused: bits that are wrong", bits_that_are_wrong(random)),
+        case("refused: question 3", many(|| unasked(any(random)))),
+        with_room(0, "refused: no room", many(|| any(random))),
+    ]
+}
+
+fn many(mut job: impl FnMut() -> Job) -> Vec<Vec<u8>> {
+    (0..1_000).map(|_| job().encode().to_vec()).collect()
+}
+
+fn unasked(job: Job) -> Job {
+    Job { question: 3, ..job }
+}
+
+/// A turn and a half around Mars in 4,096 steps, with at least a change and at most eight.
+fn few_changes(random: &mut Random, question: u32) -> Vec<Vec<u8>> {
+    let orbit = || {
+        let job = plausible(random, MARS, question);
+        let step = (job.fields[5] * 1_500.0) as u64 / MOST_STEPS;
+        windowed(random, job, MOST_STEPS, step).encode().to_vec()
+    };
+    let halvings = |record: &Vec<u8>| {
+        let answer = host::list(record, &mut vec![0; LONGEST_LIST]);
+        answer.asked - (MOST_STEPS + 1)
+    };
+    std::iter::repeat_with(orbit)
+        .filter(|record| (1..=8 * 20).contains(&halvings(record)))
+        .take(10)
+        .collect()
+}
+
+fn each_step(random: &mut Random, question: u32) -> Vec<Vec<u8>> {
+    let asks = |record: &Vec<u8>| Job::decode(record).is_some_and(|job| job.question == question);
+    let mut records = families::every_step_changes(random);
+    records.retain(asks);
+    records
+}
+
+fn short(random: &mut Random, steps: u64, step: u64) -> Vec<Vec<u8>> {
+    many(|| {
+        let job = any(random);
+        windowed(random, job, steps, step)
+    })
+}
+
+/// Good records with some bits flipped, those of them that are refused.
+fn bits_that_are_wrong(random: &mut Random) -> Vec<Vec<u8>> {
+    let mut records = families::bit_flips(random);
+    records.retain(|record| host::list(record, &mut vec![0; LONGEST_LIST]).refusal != 0);
+    records
+}

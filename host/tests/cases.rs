@@ -1,0 +1,151 @@
+//! The tests of agreement can fail: a wrong answer is told, and the cases are those that they are
+//! said to be.
+
+mod common;
+
+use common::comparing::{first_difference, Difference};
+use common::families::{self, Pieces};
+use common::jobs::{self, LONGEST_LIST, MOST_STEPS};
+use common::random::Random;
+use common::told;
+use host::record::{Interval, INTERVAL};
+use host::Answer;
+use std::collections::BTreeSet;
+
+fn answers(pieces: &[Vec<u8>]) -> Vec<Vec<u8>> {
+    pieces.iter().map(|piece| host::program(piece)).collect()
+}
+
+/// Listed and refused records, and a short piece.
+fn some_pieces() -> Pieces {
+    let mut random = Random::of("some_pieces");
+    let mut pieces = families::short_tail(&mut random);
+    pieces.splice(3..3, families::words(&mut random));
+    pieces
+}
+
+#[test]
+fn the_same_answers_are_no_difference() {
+    let answers = answers(&some_pieces());
+    assert_eq!(first_difference(&answers, &answers.concat()), None);
+}
+
+#[test]
+fn each_wrong_byte_is_found_in_its_answer() {
+    let answers = answers(&some_pieces());
+    let mut output = answers.concat();
+    let cases = answers
+        .iter()
+        .enumerate()
+        .flat_map(|(case, answer)| vec![case; answer.len()]);
+    for (at, case) in cases.enumerate() {
+        output[at] ^= 1 << (at % 8);
+        let found = first_difference(&answers, &output).map(|difference| difference.case);
+        assert_eq!(found, Some(case), "byte {at}");
+        output[at] ^= 1 << (at % 8);
+    }
+}
+
+#[test]
+fn an_output_that_ends_early_is_found() {
+    let answers = answers(&some_pieces());
+    let output = answers.concat();
+    for length in 0..output.len() {
+        assert!(
+            first_difference(&answers, &output[..length]).is_some(),
+            "{length} bytes"
+        );
+    }
+}
+
+#[test]
+fn an_output_that_goes_on_is_found() {
+    let answers = answers(&some_pieces());
+    let more = Difference {
+        case: answers.len(),
+        independent: vec![],
+        proved: vec![7; 3],
+    };
+    let output = [answers.concat(), vec![7; 3]].concat();
+    assert_eq!(first_difference(&answers, &output), Some(more));
+}
+
+/// What is told has the job in words and in bits, both answers and the seed.
+#[test]
+fn a_difference_is_told() {
+    let job = jobs::changing(1, 0.0, 30_000, 1);
+    let pieces = vec![job.encode().to_vec(); 3];
+    let answers = answers(&pieces);
+    let mut output = answers.concat();
+    output[answers[0].len() + 40] ^= 1;
+    let told = first_difference(&answers, &output)
+        .unwrap()
+        .told("mars", &pieces);
+    let seed = common::random::seed();
+    let interval = |k: usize| told::records(&answers[0][INTERVAL * k..][..INTERVAL])[0].clone();
+    for part in [
+        &format!("case 1 of mars, seed {seed}; again by: QUECHOTZAL_SEED={seed} cargo test"),
+        "field 7, planet radius R, km: 9900.0 (40c3560000000000)",
+        "field 9, its declination: -20.0 (c034000000000000)",
+        "window 25904 to 122914096, step 30002, question 1",
+        &format!("bytes: {}", told::hex(&pieces[1])),
+        &format!("  0: {}", interval(0)),
+        &format!("> 1: {}", interval(1)),
+    ] {
+        assert!(told.contains(part), "{part}\nis not in\n{told}");
+    }
+    assert_eq!(told.matches("> 1: job 1: from").count(), 2, "{told}");
+}
+
+fn listed(piece: &[u8]) -> (Answer, Vec<Interval>) {
+    let mut list = vec![0; LONGEST_LIST];
+    let answer = host::list(piece, &mut list);
+    let records = list
+        .chunks(INTERVAL)
+        .map(|record| Interval::decode(record).unwrap());
+    (answer, records.take(answer.intervals as usize).collect())
+}
+
+/// Every refusal of the program, and 3 and 4 for every field, comes up; 9 and 10 cannot.
+#[test]
+fn every_refusal_comes_up() {
+    let mut random = Random::of("every_refusal_comes_up");
+    let mut pieces = families::fields(&mut random);
+    pieces.extend(families::two_faults(&mut random));
+    pieces.extend(families::short_tail(&mut random));
+    let answers = pieces.iter().map(|piece| listed(piece).0);
+    let refusals: BTreeSet<_> = answers
+        .map(|answer| (answer.refusal, answer.field))
+        .collect();
+    let of_fields = [3, 4]
+        .into_iter()
+        .flat_map(|row| (1..=13).map(move |k| (row, k)));
+    let of_others = [0, 1, 2, 5, 6, 7, 8].into_iter().map(|row| (row, 0));
+    assert_eq!(refusals, of_fields.chain(of_others).collect());
+}
+
+/// Half of the plausible jobs have something to list, for each planet.
+#[test]
+fn plausible_jobs_have_lists() {
+    for family in [families::mars, families::venus, families::earth] {
+        let pieces = family(&mut Random::of("plausible_jobs_have_lists"));
+        let full = pieces
+            .iter()
+            .filter(|piece| listed(piece).0.intervals > 0)
+            .count();
+        assert!(2 * full > pieces.len(), "{full} of {}", pieces.len());
+    }
+}
+
+/// An interval begins and ends with a change, but at the window's ends.
+#[test]
+fn every_step_changes() {
+    for piece in families::every_step_changes(&mut Random::of("every_step_changes")) {
+        let (answer, intervals) = listed(&piece);
+        let at_ends: u32 = intervals
+            .iter()
+            .map(|interval| interval.flags.count_ones())
+            .sum();
+        assert_eq!(2 * answer.intervals - u64::from(at_ends), MOST_STEPS);
+    }
+}

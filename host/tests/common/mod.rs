@@ -1,0 +1,14 @@
+//! What the tests of agreement and the benchmark share.
+
+// Each of them uses its part.
+#![allow(dead_code, unused_macros, unused_imports)]
+
+pub mod comparing;
+pub mod driver;
+pub mod families;
+pub mod jobs;
+pub mod random;
+pub mod told;
+
+#[cfg(door)]
+pub mod door;

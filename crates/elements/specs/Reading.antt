@@ -76,9 +76,13 @@ closeRow e =
     let distance = closestOf (e .axis) (e .eccentricity) in
     when (not (lt (e .radius) distance)) (TooClose distance)
 
--- 2 to 5 of a record with the elements e
+-- 3 to 5 of a record with the elements e
+abbrev pub rowsFromFields : List ℕ → Elements → List Verdict
+rowsFromFields s e = fieldRows s e ++ closeRow e ∷ []
+
+-- 2 to 5
 abbrev pub rowsFrom : List ℕ → Elements → List Verdict
-rowsFrom s e = wordRow s ∷ fieldRows s e ++ closeRow e ∷ []
+rowsFrom s e = wordRow s ∷ rowsFromFields s e
 
 -- 1 to 5 of a record
 abbrev pub recordRows : List ℕ → List Verdict

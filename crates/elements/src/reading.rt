@@ -1,7 +1,7 @@
 // The orbit record's elements, or why they are turned away.
 ghost use mathlib.Core.Path.{_≡_};
 ghost use lib.ListN.{take, drop};
-ghost use Rattle.elements.specs.Reading.{WholeRecord, elementsOf, wordRow, fieldRows, closeRow, rowsFrom, readingOf};
+ghost use Rattle.elements.specs.Reading.{WholeRecord, elementsOf, wordRow, fieldRows, closeRow, rowsFromFields, rowsFrom, readingOf};
 ghost use Rattle.refusal.specs.Rows.{first};
 use crate::closest::closest;
 use crate::fields::field;
@@ -100,14 +100,28 @@ fn close_row(e: Elements) -> Verdict
     row(!(e.radius < distance), Refusal::TooClose { distance })
 }
 
+// Refusals 3 to 5 of a record with the elements e. Fields 8 to 13 are looked at only where those before are let through.
+fn fields_and_distance(s: &[u8], e: Elements) -> Verdict
+    requires { ⌜ WholeRecord (now s) ⌝ }
+    ensures { λ v. ⌜ v ≡ first (rowsFromFields (now (s .entry)) e) ⌝ }
+{
+    let v = orbit(s, e);
+    match v {
+        Verdict::Refused(_) => v,
+        Verdict::Passed => then(sky(s, e), close_row(e)),
+    }
+}
+
 // Refusals 2 to 5 of a record with the elements e.
 fn checked(s: &[u8], e: Elements) -> Verdict
     requires { ⌜ WholeRecord (now s) ⌝ }
     ensures { λ v. ⌜ v ≡ first (rowsFrom (now (s .entry)) e) ⌝ }
 {
-    let v = then(word_row(s), orbit(s, e));
-    let v = then(v, sky(s, e));
-    then(v, close_row(e))
+    let v = word_row(s);
+    match v {
+        Verdict::Refused(_) => v,
+        Verdict::Passed => fields_and_distance(s, e),
+    }
 }
 
 // The elements, or the first refusal of 1 to 5 that applies.

@@ -9,7 +9,7 @@ use Rattle.refusal.specs.Rows.{_then_, first}
 use Rattle.refusal.specs.declared.Refusal.{Refusal}
 use Rattle.refusal.specs.declared.Verdict.{Verdict}
 use Rattle.refusal.specs.declared.Verdict.the-variants as verdict
-use Rattle.refusal.proofs.Order.{first-append, then-assoc, then-passed, first-exactly, passed-exactly}
+use Rattle.refusal.proofs.Order.{first-append, then-assoc, then-passed, stops, goes, first-exactly, passed-exactly}
 use Rattle.elements.specs.Reading.{recordRows, elementsOf, readingOf}
 use Rattle.elements.specs.declared.reading.Elements.{Elements}
 use Rattle.elements.specs.declared.reading.Reading.the-variants as reading
@@ -40,15 +40,6 @@ module _ (f : ℕ → Bool) (w : Window) (old : List ℕ) where
   listed v n new h a b = rw (h, a) (refl, b)
 
 -- ---- a table in two parts
-
-module _ (v a b : Verdict) (parts : v ≡ (a then b)) where
-  pub stops : (r : Refusal) → a ≡ verdict.Refused r → v ≡ verdict.Refused r
-  unfolding _then_
-  stops r h = parts ∙ rw h
-
-  pub goes : a ≡ verdict.Passed → v ≡ b
-  unfolding _then_
-  goes h = parts ∙ rw h
 
 -- 6 and 7, then 8 and 9
 pub before-parts : (w : Window) (q room : ℕ) → first (rowsBeforeSearch w q room) ≡ ((windowRow w then stepRow w) then (questionRow q then roomRow w room))

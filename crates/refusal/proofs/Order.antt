@@ -32,6 +32,16 @@ then-passed (Refused r) = refl
 pub then-told : {v a b a′ b′ : Verdict} → v ≡ (a then b) → a ≡ a′ → b ≡ b′ → v ≡ (a′ then b′)
 then-told {v} {a} {b} {a′} e p q = e ∙ ap (λ (x : Verdict). x then b) p ∙ ap (λ (x : Verdict). a′ then x) q
 
+-- of two parts the first stops, or lets the second decide
+module _ (v a b : Verdict) (parts : v ≡ (a then b)) where
+  pub stops : (r : Refusal) → a ≡ Refused r → v ≡ Refused r
+  unfolding _then_
+  stops r h = parts ∙ rw h
+
+  pub goes : a ≡ Passed → v ≡ b
+  unfolding _then_
+  goes h = parts ∙ rw h
+
 -- of a row: of its test
 pub when-told : {v : Verdict} {t t′ : Bool} (r : Refusal) → v ≡ when t r → t ≡ t′ → v ≡ when t′ r
 when-told r e p = e ∙ ap (λ (x : Bool). when x r) p

@@ -1,7 +1,8 @@
 -- `job::before_search` meets its contract: rows 6 and 7 stop it, or hand on to rows 8 and 9.
 use mathlib.Core.Path.{sym, _∙_}
+use Rattle.refusal.proofs.Order.{stops, goes}
 use Rattle.job.proofs.Laws.{both-good}
-use Rattle.job.proofs.Cases.{stops, goes, before-parts}
+use Rattle.job.proofs.Cases.{before-parts}
 use borrow.Author.Needs.{needs}
 use Rattle.job.proofs.before_search.Statement.{statement}
 use Rattle.job.proofs.before_search.Tie as tie

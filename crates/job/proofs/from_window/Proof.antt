@@ -1,9 +1,10 @@
 -- `job::from_window` meets its contract: rows 6 to 9 stop it, or hand on to row 10.
 use mathlib.Core.Path.{sym, _∙_}
 use lib.ListN.{length}
+use Rattle.refusal.proofs.Order.{stops, goes}
 use Rattle.job.specs.Outcome.{answersOf}
 use Rattle.job.proofs.Laws.{before-passed}
-use Rattle.job.proofs.Cases.{refused, stops, goes, window-parts}
+use Rattle.job.proofs.Cases.{refused, window-parts}
 use borrow.Author.Needs.{needs}
 use Rattle.job.proofs.from_window.Statement.{statement}
 use Rattle.job.proofs.from_window.Tie as tie

@@ -24,7 +24,7 @@ fn hold(name: &str, pieces: &[Vec<u8>]) {
         host::program(&stream) == independent.concat(),
         "{name}: a stream, and its pieces"
     );
-    if let Some(difference) = first_difference(&independent, &driver::lists(&stream)) {
+    if let Some(difference) = first_difference(&independent, &driver::built("lists", &stream)) {
         panic!("{}", difference.told(name, pieces));
     }
 }

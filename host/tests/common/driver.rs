@@ -1,4 +1,4 @@
-//! The built program `lists`, driven through its standard input and output.
+//! The built programs, driven through their standard input and output.
 
 use std::io::{Read, Write};
 use std::process::{Child, Command, Stdio};
@@ -11,9 +11,9 @@ const LIMIT: Duration = Duration::from_secs(240);
 
 const RUN: &str = concat!(env!("CARGO_MANIFEST_DIR"), "/../tools/run");
 
-/// What the program writes for its whole input. It says nothing on standard error.
-pub fn lists(input: &[u8]) -> Vec<u8> {
-    let mut program = started();
+/// What a program that `rt check` built writes for its whole input. It says nothing on standard error.
+pub fn built(name: &str, input: &[u8]) -> Vec<u8> {
+    let mut program = started(name);
     feed(&mut program, input.to_vec());
     let written = collected(program.stdout.take().unwrap());
     let said = collected(program.stderr.take().unwrap());
@@ -23,14 +23,14 @@ pub fn lists(input: &[u8]) -> Vec<u8> {
     let said = String::from_utf8_lossy(&said);
     assert!(
         status.success() && said.is_empty(),
-        "{RUN} lists: {status}; it says: {said}"
+        "{RUN} {name}: {status}; it says: {said}"
     );
     written
 }
 
-fn started() -> Child {
+fn started(name: &str) -> Child {
     Command::new(RUN)
-        .arg("lists")
+        .arg(name)
         .stdin(Stdio::piped())
         .stdout(Stdio::piped())
         .stderr(Stdio::piped())
@@ -58,6 +58,6 @@ fn collected(mut stream: impl Read + Send + 'static) -> Receiver<Vec<u8>> {
 fn within_limit(program: &mut Child, bytes: Receiver<Vec<u8>>) -> Vec<u8> {
     bytes.recv_timeout(LIMIT).unwrap_or_else(|_| {
         program.kill().unwrap();
-        panic!("{RUN} lists does not end within {LIMIT:?}")
+        panic!("{RUN}: the program does not end within {LIMIT:?}")
     })
 }

@@ -34,6 +34,10 @@ impl Random {
         z ^ (z >> 31)
     }
 
+    pub fn below(&mut self, n: u64) -> u64 {
+        self.between(0, n - 1)
+    }
+
     /// A whole number from `low` to `high`, both included.
     pub fn between(&mut self, low: u64, high: u64) -> u64 {
         let choices = u128::from(high - low) + 1;

@@ -1,5 +1,6 @@
 //! What the tests share: job 7, refusals, random numbers.
 
+pub use crate::common::random::Random;
 use host::record::{Interval, Job, INTERVAL};
 use host::{list, Answer};
 
@@ -101,27 +102,7 @@ pub const ACCEPTED: [(f64, f64, bool); 13] = [
     (0.0, 90.0, true),
 ];
 
-/// Splitmix: the same jobs on every run.
-pub struct Random(pub u64);
-
 impl Random {
-    pub fn next(&mut self) -> u64 {
-        self.0 = self.0.wrapping_add(0x9E37_79B9_7F4A_7C15);
-        let mut z = self.0;
-        z = (z ^ (z >> 30)).wrapping_mul(0xBF58_476D_1CE4_E5B9);
-        z = (z ^ (z >> 27)).wrapping_mul(0x94D0_49BB_1331_11EB);
-        z ^ (z >> 31)
-    }
-
-    pub fn below(&mut self, n: u64) -> u64 {
-        self.next() % n
-    }
-
-    pub fn float(&mut self, least: f64, most: f64) -> f64 {
-        let part = (self.next() >> 11) as f64 / (1u64 << 53) as f64;
-        (least + part * (most - least)).min(most.next_down())
-    }
-
     /// Great and small alike.
     pub fn spread(&mut self, least: f64, most: f64) -> f64 {
         let log = self.float(least.ln(), most.ln());
@@ -146,7 +127,7 @@ impl Random {
         let length = 1 + self.below(u64::from(step) * 80);
         let t0 = self.below(2_678_400_000 - length);
         Job {
-            job: self.next() as u32,
+            job: self.bits() as u32,
             word: 0,
             fields,
             t0,

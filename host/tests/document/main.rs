@@ -2,6 +2,8 @@
 
 #![allow(non_snake_case)]
 
+#[path = "../common/mod.rs"]
+mod common;
 mod helpers;
 mod marked;
 mod place;

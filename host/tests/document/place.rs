@@ -34,7 +34,7 @@ fn units_of_a_radian() {
 
 #[test]
 fn kepler_search_brackets_m() {
-    let mut random = Random(2);
+    let mut random = Random::of("kepler_search_brackets_m");
     for round in 0..3000 {
         let kepler = Kepler {
             sine: Sine::table(),
@@ -54,7 +54,7 @@ fn kepler_search_brackets_m() {
 #[test]
 fn q_is_the_whole_root() {
     assert_eq!(q(0), 1 << 30);
-    let mut random = Random(3);
+    let mut random = Random::of("q_is_the_whole_root");
     for round in 0..2000i64 {
         let e = match round {
             0..100 => round,

@@ -81,7 +81,7 @@ fn counted(job: &Job, sight: &Sight) -> u64 {
 
 #[test]
 fn lists_of_random_jobs() {
-    let mut random = Random(6);
+    let mut random = Random::of("lists_of_random_jobs");
     let (mut changed, mut with_two) = (0, 0);
     for _ in 0..600 {
         let of_job = check_list(&random.job());
@@ -96,7 +96,7 @@ fn lists_of_random_jobs() {
 
 #[test]
 fn answers_agree_with_floats_away_from_the_border() {
-    let mut random = Random(7);
+    let mut random = Random::of("answers_agree_with_floats_away_from_the_border");
     let (mut hidden, mut up, mut near) = (0, 0, 0);
     for _ in 0..400 {
         let job = random.job();
@@ -194,20 +194,20 @@ fn every_corner_of_the_ranges() {
 
 #[test]
 fn any_bytes_are_answered() {
-    let mut random = Random(8);
+    let mut random = Random::of("any_bytes_are_answered");
     let mut refusals = [0; 11];
     for round in 0..4000 {
         let mut record = random.job().encode();
         for _ in 0..random.below(4) {
             let at = random.below(ORBIT as u64) as usize;
-            record[at] = random.next() as u8;
+            record[at] = random.bits() as u8;
         }
         if round % 10 == 1 {
             let at = 8 + 8 * random.below(13) as usize;
             record[at + 6..at + 8].copy_from_slice(&[0xF7, 0x7F]); // a NaN
         }
         if round % 10 == 0 {
-            record = std::array::from_fn(|_| random.next() as u8);
+            record = std::array::from_fn(|_| random.bits() as u8);
         }
         let room = random.below(2500) as usize;
         let (answer, intervals) = answer_of(&record, room);
@@ -218,7 +218,7 @@ fn any_bytes_are_answered() {
     for number in [0, 2, 3, 4, 5, 6, 7, 8, 9] {
         assert!(refusals[number] > 0, "{refusals:?}");
     }
-    let noise: Vec<u8> = (0..5000).map(|_| random.next() as u8).collect();
+    let noise = random.bytes(5000);
     for length in [0usize, 1, 135, 136, 137, 272, 5000] {
         let records = length.div_ceil(ORBIT);
         assert_eq!(program(&noise[..length]).len(), records * INTERVAL);

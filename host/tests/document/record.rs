@@ -5,11 +5,11 @@ use host::record::{Interval, Job, INTERVAL, ORBIT};
 
 #[test]
 fn records_read_and_write_back() {
-    let mut random = Random(4);
+    let mut random = Random::of("records_read_and_write_back");
     for _ in 0..500 {
-        let orbit: Vec<u8> = (0..ORBIT).map(|_| random.next() as u8).collect();
+        let orbit = random.bytes(ORBIT);
         assert_eq!(Job::decode(&orbit).unwrap().encode()[..], orbit[..]);
-        let bytes: Vec<u8> = (0..INTERVAL).map(|_| random.next() as u8).collect();
+        let bytes = random.bytes(INTERVAL);
         assert_eq!(Interval::decode(&bytes).unwrap().encode()[..], bytes[..]);
     }
     for length in (0..200).filter(|&length| length != INTERVAL) {

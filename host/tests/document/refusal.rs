@@ -122,7 +122,7 @@ fn refusal_8_question() {
 
 #[test]
 fn refusal_10_never_arises_from_a_whole_turn() {
-    let mut random = Random(5);
+    let mut random = Random::of("refusal_10_never_arises_from_a_whole_turn");
     for _ in 0..300 {
         let job = random.job();
         let place = Place::of(&Whole::of(&job.fields));

@@ -53,9 +53,9 @@ fn sine_between_entries() {
     assert_eq!(sine.cos(0), ONE);
     assert_eq!(sine.cos(3 << 30), 0);
     assert_eq!(sine.cos(1 << 31), -ONE);
-    let mut random = Random(1);
+    let mut random = Random::of("sine_between_entries");
     for _ in 0..10_000 {
-        let theta = random.next() as u32;
+        let theta = random.bits() as u32;
         let (k, s) = ((theta & (QUARTER - 1)) >> 20, sine.sin(theta));
         let turned = |k: u32| sine.sin((theta & !(QUARTER - 1)).wrapping_add(k << 20));
         let (one, other) = (turned(k), turned(k + 1));

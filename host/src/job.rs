@@ -17,6 +17,19 @@ pub struct Answer {
     pub asked: u64,
 }
 
+impl Answer {
+    /// Every refusal returns 0 intervals and 0 instants asked.
+    pub fn refused(refusal: u32, field: u32, number: u64) -> Answer {
+        Answer {
+            refusal,
+            field,
+            number,
+            intervals: 0,
+            asked: 0,
+        }
+    }
+}
+
 /// One job whole: any bytes as record, any lent list. Writes the interval
 /// records from byte 0 on success, and nothing else.
 pub fn list(record: &[u8], list: &mut [u8]) -> Answer {
@@ -33,13 +46,7 @@ pub fn list(record: &[u8], list: &mut [u8]) -> Answer {
         }
         Err(refusal) => {
             let (refusal, field, number) = refusal.row();
-            Answer {
-                refusal,
-                field,
-                number,
-                intervals: 0,
-                asked: 0,
-            }
+            Answer::refused(refusal, field, number)
         }
     }
 }

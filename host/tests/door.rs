@@ -120,16 +120,6 @@ fn answered(record: &[u8], room: usize) -> Answer {
     door::decode(&answer).unwrap()
 }
 
-fn refused(refusal: u32, field: u32, number: u64) -> Answer {
-    Answer {
-        refusal,
-        field,
-        number,
-        intervals: 0,
-        asked: 0,
-    }
-}
-
 /// Every room from 0 to beyond the need, 24·ceil((n+1)/2) bytes for n steps: refusal 9 exactly
 /// below it.
 #[test]
@@ -184,7 +174,7 @@ fn every_record_length() {
         hold(&case("every_record_length", length, piece), ROOM, ANSWER);
         let answer = answered(piece, ROOM);
         assert_eq!(
-            answer == refused(1, 0, 0),
+            answer == Answer::refused(1, 0, 0),
             length != ORBIT,
             "{length} bytes: {answer:?}"
         );
@@ -218,7 +208,7 @@ fn the_bits_of_a_field_come_back() {
         for (refusal, bits) in refusals.chain(out_of_range.map(|bits| (4, bits))) {
             assert_eq!(
                 answered_with(job, k, bits),
-                refused(refusal, k as u32, bits)
+                Answer::refused(refusal, k as u32, bits)
             );
         }
     }
@@ -233,7 +223,7 @@ fn the_distance_comes_back() {
         let distance = job.fields[0] * (1.0 - job.fields[1]);
         if distance <= 100_000.0 {
             let answer = answered_with(job, 7, 100_000.0f64.to_bits());
-            assert_eq!(answer, refused(5, 0, distance.to_bits()));
+            assert_eq!(answer, Answer::refused(5, 0, distance.to_bits()));
         }
     }
 }
@@ -249,7 +239,10 @@ fn zero_comes_back() {
         Job { question: 0, ..job },
     ];
     for (row, refusal) in rows.iter().zip([2, 6, 7, 8]) {
-        assert_eq!(answered(&row.encode(), ROOM), refused(refusal, 0, 0));
+        assert_eq!(
+            answered(&row.encode(), ROOM),
+            Answer::refused(refusal, 0, 0)
+        );
     }
-    assert_eq!(answered(&job.encode(), 0), refused(9, 0, 0));
+    assert_eq!(answered(&job.encode(), 0), Answer::refused(9, 0, 0));
 }

@@ -36,16 +36,6 @@ pub const KEPT: u8 = 0xA5;
 /// Room for the longest list.
 pub const ROOM: usize = 24 * 2049;
 
-pub fn refused(refusal: u32, field: u32, number: u64) -> Answer {
-    Answer {
-        refusal,
-        field,
-        number,
-        intervals: 0,
-        asked: 0,
-    }
-}
-
 pub fn listed(intervals: u64, asked: u64) -> Answer {
     Answer {
         refusal: 0,

@@ -3,6 +3,7 @@
 use crate::helpers::*;
 use host::list;
 use host::record::Interval;
+use host::Answer;
 
 #[test]
 fn job_7_list_and_count() {
@@ -63,19 +64,29 @@ fn steps_4096_and_4097() {
         (4097 + 9..=4097 + 10).contains(&answer.asked),
         "one changed step of 1,000 ms"
     );
-    assert_eq!(run(&job7_in(0, 4_096_001, 1000)).0, refused(7, 0, 0));
-    assert_eq!(run(&job7_in(0, 4_097_000, 1000)).0, refused(7, 0, 0));
+    assert_eq!(
+        run(&job7_in(0, 4_096_001, 1000)).0,
+        Answer::refused(7, 0, 0)
+    );
+    assert_eq!(
+        run(&job7_in(0, 4_097_000, 1000)).0,
+        Answer::refused(7, 0, 0)
+    );
 }
 
 #[test]
 fn room_one_byte_short() {
     // n = 12 asks for 24·ceil(13/2) = 168 bytes.
-    assert_eq!(answer_of(&job7().encode(), 167).0, refused(9, 0, 0));
+    assert_eq!(answer_of(&job7().encode(), 167).0, Answer::refused(9, 0, 0));
     assert_eq!(answer_of(&job7().encode(), 168).0, listed(1, 52));
     // n = 1 asks for 24, n = 2 for 48, n = 3 for 48.
     for (n, room) in [(1, 24), (2, 48), (3, 48), (4, 72), (4096, 24 * 2049)] {
         let record = job7_in(0, n, 1).encode();
-        assert_eq!(answer_of(&record, room - 1).0, refused(9, 0, 0), "{n}");
+        assert_eq!(
+            answer_of(&record, room - 1).0,
+            Answer::refused(9, 0, 0),
+            "{n}"
+        );
         assert_eq!(answer_of(&record, room).0, listed(0, n + 1), "{n}");
     }
 }

@@ -11,4 +11,4 @@ pub quechotzal-list-bytes-only : OneList 3 quechotzal-list.ps quechotzal-list.r 
 quechotzal-list-bytes-only κs a x y s t p q = by-value _ (p .1 .0) (q .1 .0)
 
 pub quechotzal-list-answer-only : OneList 3 quechotzal-list.ps quechotzal-list.r (λ κs s. now (s .1 .1 .0)) quechotzal-list-reads.Post
-quechotzal-list-answer-only κs a x y s t p q = by-value _ (p .1 .1) (q .1 .1)
+quechotzal-list-answer-only κs a x y s t p q = by-value _ (p .1 .1 .0) (q .1 .1 .0)

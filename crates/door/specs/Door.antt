@@ -1,11 +1,12 @@
 -- What a call through the door returns and leaves behind: of the record's bytes, the list's and the answer's.
 use Prim.Native.Nat.{ℕ}
+use mathlib.Core.Path.{_≡_}
 use mathlib.Core.Bool.{Bool, cond}
 use mathlib.Core.List.{List}
 use lib.Dec.{eqb}
 use lib.ListN.{length}
 use Rattle.job.specs.Outcome.{outcomeOf, listAfter}
-use Rattle.door.specs.Answer.{answerOf, answerBytes}
+use Rattle.door.specs.Answer.{answerOf, answerBytes, answerIn, AnswerSized}
 
 -- whether the caller lends 32 bytes for the answer
 abbrev pub heard : List ℕ → Bool
@@ -22,3 +23,7 @@ listBehind s list answer = cond (heard answer) (listAfter s list) list
 -- what came of the job
 unfoldable pub answerBehind : List ℕ → List ℕ → List ℕ → List ℕ
 answerBehind s list answer = cond (heard answer) (answerBytes (answerOf (outcomeOf s (length list)))) answer
+
+-- the numbers that a caller reads off the answer's bytes afterwards are those that came of the job: none was cut off
+abbrev pub ReadsBack : List ℕ → List ℕ → List ℕ → List ℕ → Type 0
+ReadsBack s list answer after = AnswerSized answer → answerIn after ≡ answerOf (outcomeOf s (length list))

@@ -1,7 +1,7 @@
 // The door for C, Rust and Python: numbers and byte slices only, each function thin over `job`. include/quechotzal.h says the same to a C programmer.
 ghost use mathlib.Core.Path.{_≡_};
 ghost use Rattle.door.specs.Answer.{answerOf, answerBytes, AnswerSized};
-ghost use Rattle.door.specs.Door.{returnedOf, listBehind, answerBehind};
+ghost use Rattle.door.specs.Door.{returnedOf, listBehind, answerBehind, ReadsBack};
 use job::Outcome;
 
 // What a caller is told beside the list.
@@ -54,6 +54,7 @@ pub extern "C" fn quechotzal_list(record: &[u8], list: &mut [u8], answer: &mut [
     ensures { λ r. ⌜ r ≡ returnedOf (now (answer .entry)) ⌝ }
     ensures { λ _. ⌜ now (list .exit) ≡ listBehind (now («record» .entry)) (now (list .entry)) (now (answer .entry)) ⌝ }
     ensures { λ _. ⌜ now (answer .exit) ≡ answerBehind (now («record» .entry)) (now (list .entry)) (now (answer .entry)) ⌝ }
+    ensures { λ _. ⌜ ReadsBack (now («record» .entry)) (now (list .entry)) (now (answer .entry)) (now (answer .exit)) ⌝ }
 {
     if answer.len() != 32 {
         return 0;

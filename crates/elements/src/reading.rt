@@ -100,7 +100,7 @@ fn close_row(e: Elements) -> Verdict
     row(!(e.radius < distance), Refusal::TooClose { distance })
 }
 
-// Refusals 3 to 5 of a record with the elements e. Fields 8 to 13 are looked at only where those before are let through.
+// Refusals 3 to 5 of a record with the elements e. Fields 8 to 13 are tried only where those before are let through.
 fn fields_and_distance(s: &[u8], e: Elements) -> Verdict
     requires { ⌜ WholeRecord (now s) ⌝ }
     ensures { λ v. ⌜ v ≡ first (rowsFromFields (now (s .entry)) e) ⌝ }

@@ -46,6 +46,11 @@ module _ (v a b : Verdict) (parts : v ≡ (a then b)) where
 pub when-told : {v : Verdict} {t t′ : Bool} (r : Refusal) → v ≡ when t r → t ≡ t′ → v ≡ when t′ r
 when-told r e p = e ∙ ap (λ (x : Bool). when x r) p
 
+-- a row, then those behind it
+pub first-cons : (v : Verdict) (vs : List Verdict) → first (v ∷ vs) ≡ (v then first vs)
+unfolding first
+first-cons v vs = refl
+
 -- a table in two parts: where the first part passes, the second decides
 pub first-append : (xs ys : List Verdict) → first (xs ++ ys) ≡ first xs then first ys
 unfolding first _then_
@@ -62,6 +67,15 @@ row-append (x ∷ xs) ys (suc k) h = row-append xs ys k (omega arith)
 -- of a table cut anywhere
 pub first-split : (k : ℕ) (vs : List Verdict) → first (take k vs) then first (drop k vs) ≡ first vs
 first-split k vs = sym (first-append (take k vs) (drop k vs)) ∙ ap first (take-append-drop k vs)
+
+-- rows in two parts and another row behind them
+pub first-parts : (k : ℕ) (vs : List Verdict) (z : Verdict) → first (vs ++ z ∷ []) ≡ (first (take k vs) then (first (drop k vs) then z))
+unfolding first
+first-parts k vs z =
+    first-append vs (z ∷ [])
+    ∙ ap (λ (v : Verdict). first vs then v) (then-passed z)
+    ∙ ap (λ (v : Verdict). v then z) (sym (first-split k vs))
+    ∙ then-assoc (first (take k vs)) (first (drop k vs)) z
 
 -- ---- a row and its test
 

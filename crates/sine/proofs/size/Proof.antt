@@ -1,6 +1,5 @@
 -- `sine::size` meets its contract: by the quadrant, and in an odd one by whether its rest is 0.
 use mathlib.Core.Path.{_≡_, _∙_, sym, ap}
-use Prim.Native.Nat.{ℕ, _-_, _%_}
 use native.Mathlib.Omega.{arith}
 use Rattle.angle.specs.Turn.{quarterTurn}
 use Rattle.sine.specs.Sine.{readingOf, foldOf}

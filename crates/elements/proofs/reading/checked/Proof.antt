@@ -1,18 +1,10 @@
 -- `elements::checked` meets its contract: row 2 stops it, or hands on to the fields' rows.
-use mathlib.Core.Path.{_≡_, refl, sym, _∙_}
-use mathlib.Core.List.{List, _∷_}
-use Rattle.refusal.specs.Rows.{_then_, first}
-use Rattle.refusal.specs.declared.Verdict.{Verdict}
-use Rattle.refusal.proofs.Order.{stops, goes}
+use mathlib.Core.Path.{sym, _∙_}
+use Rattle.refusal.proofs.Order.{first-cons, stops, goes}
 use Rattle.elements.specs.Reading.{rowsFromFields}
 use borrow.Author.Needs.{needs}
 use Rattle.elements.proofs.reading.checked.Statement.{statement}
 use Rattle.elements.proofs.reading.checked.Tie as tie
-
--- a row, then those behind it
-parts : (v : Verdict) (vs : List Verdict) → first (v ∷ vs) ≡ (v then first vs)
-unfolding first
-parts v vs = refl
 
 word-row-requires : tie.Need-word-row-requires
 word-row-requires c κs = search needs
@@ -31,12 +23,12 @@ returns c =
     let m = c .before .before in
     let a = m .before .before .args in
     let h = c .enum-told .given .1 in
-    h ∙ sym (stops _ _ _ (parts _ (rowsFromFields (a .s .now) (a .e))) _ (sym (m .word-row .ensures) ∙ h))
+    h ∙ sym (stops _ _ _ (first-cons _ (rowsFromFields (a .s .now) (a .e))) _ (sym (m .word-row .ensures) ∙ h))
 
 returns-2 : tie.Need-returns-2
 returns-2 c =
     let m = c .before .before .before in
-    c .fields-and-distance .ensures ∙ sym (goes _ _ _ (parts _ _) (sym (m .word-row .ensures) ∙ c .before .enum-told2 .given .1))
+    c .fields-and-distance .ensures ∙ sym (goes _ _ _ (first-cons _ _) (sym (m .word-row .ensures) ∙ c .before .enum-told2 .given .1))
 
 pub checked-spec : {M : Type 1} → statement M
 checked-spec =

@@ -23,7 +23,7 @@ fn main() {
 
 /// The archive to link, or why there is none.
 fn archive() -> Result<PathBuf, String> {
-    if let Some(named) = env::var_os(NAMED) {
+    if let Some(named) = env::var_os(NAMED).filter(|named| !named.is_empty()) {
         let path = Path::new(&named).canonicalize();
         return Ok(path.unwrap_or_else(|why| panic!("{NAMED} is {named:?}: {why}")));
     }

@@ -76,9 +76,8 @@ fn write(job: &Job, sight: &Sight, list: &mut [u8]) -> Found {
         window,
         |t| sight.answer(t),
         |first, last| {
-            if let Some(place) = places.next() {
-                place.copy_from_slice(&interval(job, first, last).encode());
-            }
+            let place = places.next().expect("row 9 left room");
+            place.copy_from_slice(&interval(job, first, last).encode());
         },
     )
 }

@@ -1,6 +1,7 @@
 //! Document 01 once more, in plain Rust: an implementation written from the
-//! document alone, to be set against the proved one. One module for each
-//! heading; a comment at each rule names its place in the document.
+//! document, and from six readings of it (docs/DECISIONS.md, entry 68), with no
+//! sight of the crates, to be set against the proved one. Modules by the
+//! document's headings; a comment at each rule names its place there.
 
 // The document's letters are kept: E (an anomaly) is not e (the eccentricity).
 #![allow(non_snake_case)]

@@ -1,6 +1,7 @@
 //! The program's output held against the independent implementation's answers.
 
 use super::told;
+use host::program::REFUSED;
 use host::record::{Interval, INTERVAL};
 
 /// The first piece whose answers differ; one behind the last where the output goes on.
@@ -35,7 +36,7 @@ pub fn first_difference(independent: &[Vec<u8>], output: &[u8]) -> Option<Differ
 
 /// The records up to the first closing one, or all that there is.
 fn first_answer(output: &[u8]) -> &[u8] {
-    let closing = |record: &[u8]| Interval::decode(record).is_some_and(|r| r.flags >= 256);
+    let closing = |record: &[u8]| Interval::decode(record).is_some_and(|r| r.flags >= REFUSED);
     match output.chunks(INTERVAL).position(closing) {
         Some(k) => &output[..INTERVAL * (k + 1)],
         None => output,

@@ -1,6 +1,7 @@
 //! A disagreement, told so that it can be read and run again.
 
 use super::random::seed;
+use host::program::{LISTED, REFUSED};
 use host::record::{Interval, Job, INTERVAL};
 use host::Answer;
 use std::fmt::Write;
@@ -109,10 +110,10 @@ fn record(bytes: &[u8]) -> String {
         return format!("{} bytes: {}", bytes.len(), hex(bytes));
     };
     match flags {
-        512 => format!("job {job}: {first} intervals, {last} instants asked"),
-        256..=511 => format!(
+        LISTED => format!("job {job}: {first} intervals, {last} instants asked"),
+        REFUSED..LISTED => format!(
             "job {job}: refusal {}, field {first}, last {last}",
-            flags - 256
+            flags - REFUSED
         ),
         _ => format!("job {job}: from {first} to {last}, flags {flags}"),
     }

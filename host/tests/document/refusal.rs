@@ -15,6 +15,18 @@ fn with_field(k: usize, x: f64, question: u32) -> Answer {
 }
 
 #[test]
+fn a_refusal_returns_no_intervals_and_no_instants() {
+    let expected = Answer {
+        refusal: 3,
+        field: 2,
+        number: 5,
+        intervals: 0,
+        asked: 0,
+    };
+    assert_eq!(Answer::refused(3, 2, 5), expected);
+}
+
+#[test]
 fn refusal_1_length() {
     let record = job7().encode();
     for length in 0..ORBIT {

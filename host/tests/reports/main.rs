@@ -6,7 +6,7 @@
 //! - 003: area coverage by orbital photoimaging systems. An orbit of Mars, table III.
 //! - 004: NASA TM X-65750, IMP-6. Orbits of the Earth, appendix C, page 62 on.
 //!
-//! A file for each. The text of 000 has no page numbers; its tests are about appendix C, "Sample Output", where β = 50 is the
+//! A file for each. The texts of 000 and 003 have no page numbers; what is held of 000 is about appendix C, "Sample Output", where β = 50 is the
 //! first sheet and β = 60 the second. 001 is a manual and prints no results. The texts are read from scans; where a digit was misread, a comment says so.
 
 #![allow(non_snake_case)]

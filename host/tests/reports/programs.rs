@@ -1,6 +1,7 @@
 //! What the proved programs answer, of which the independent implementation has to say the same.
 
 use crate::common::driver::built;
+use host::program::LISTED;
 use host::record::{Interval, Job, INTERVAL};
 use host::rotation::{direction, rotation, sum};
 use host::scaled::scaled;
@@ -22,7 +23,7 @@ pub fn list(job: &Job) -> Vec<Interval> {
         .collect();
     assert_eq!(
         records.pop().map(|closing| closing.flags),
-        Some(512),
+        Some(LISTED),
         "{job:?}"
     );
     records
@@ -82,32 +83,35 @@ pub fn places(fields: Fields, instants: &[u64]) -> Vec<Place> {
         .collect()
 }
 
-pub fn three_places(fields: Fields, instants: &[u64]) -> Vec<Place> {
-    let records: Vec<u8> = instants
-        .iter()
-        .flat_map(|&t| job(fields, t, t + 1, 1, 1).encode())
+/// Each of three records has its twelve lines; where there are fewer instants the last is asked again.
+fn three_places(fields: Fields, instants: &[u64]) -> Vec<Place> {
+    let asked = [0, 1, 2].map(|k| instants[k.min(instants.len() - 1)]);
+    let records = asked.map(|t| job(fields, t, t + 1, 1, 1).encode());
+    let output = String::from_utf8(built("instants", &records.concat())).unwrap();
+    let lines: Vec<&str> = output.lines().collect();
+    assert_eq!(lines.len(), 3 * 12, "lines of `instants`");
+    let first_of_twelve = lines.iter().step_by(12);
+    first_of_twelve
+        .zip(instants)
+        .map(|(line, &t)| place(fields, t, line))
+        .collect()
+}
+
+/// The place that a line tells, which is the independent implementation's too.
+fn place(fields: Fields, t: u64, line: &str) -> Place {
+    let numbers: Vec<i64> = line
+        .split(' ')
+        .skip(1)
+        .map_while(|word| word.parse().ok())
         .collect();
-    let output = String::from_utf8(built("instants", &records)).unwrap();
-    let lines = output.lines().step_by(12);
-    let place = |(line, &t): (&str, &u64)| {
-        let numbers: Vec<i64> = line
-            .split(' ')
-            .skip(1)
-            .map_while(|word| word.parse().ok())
-            .collect();
-        let [X, Y, d] = independent_place(fields, t);
-        assert_eq!(
-            numbers,
-            [t as i64, X, Y, d],
-            "proved and independent, {fields:?}"
-        );
-        Place {
-            X: X as f64,
-            Y: Y as f64,
-            d: d as f64,
-        }
-    };
-    lines.zip(instants).map(place).collect()
+    let [X, Y, d] = independent_place(fields, t);
+    assert_eq!(
+        numbers,
+        [t as i64, X, Y, d],
+        "proved and independent, {fields:?}"
+    );
+    let [X, Y, d] = [X, Y, d].map(|metres| metres as f64);
+    Place { X, Y, d }
 }
 
 pub fn independent_place(fields: Fields, t: u64) -> [i64; 3] {

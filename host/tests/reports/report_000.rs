@@ -180,6 +180,20 @@ fn appendix_c_unit_vectors() {
 /// SUN ANGLE between the directions to Sun and craft.
 type Line = (Option<f64>, [f64; 5]);
 
+/// T.A., ALT, DEC, RA and SUN ANGLE of a place.
+fn line(rows: &[[f64; 3]; 2], at: &Place) -> [f64; 5] {
+    let [ascension, declination] = sky(rows, at);
+    let altitude = at.distance() / 1000.0 - VENUS_RADIUS;
+    let sun_angle = (at.d / at.distance()).acos().to_degrees();
+    [
+        at.true_anomaly(),
+        altitude,
+        declination,
+        ascension,
+        sun_angle,
+    ]
+}
+
 fn lines_are(angles: Angles, lines: &[Line]) {
     let times = lines
         .iter()
@@ -187,46 +201,22 @@ fn lines_are(angles: Angles, lines: &[Line]) {
     let ends: Vec<u64> = times.flat_map(|t| [t - HALF, t + HALF]).collect();
     let places = places(around_venus(angles, SUN), &ends);
     let rows = rows_P_and_Q(angles);
-    let found = |at: &Place| {
-        let [ascension, declination] = sky(&rows, at);
-        let (altitude, sun_angle) = (
-            at.distance() / 1000.0 - VENUS_RADIUS,
-            (at.d / at.distance()).acos(),
-        );
-        [
-            at.true_anomaly(),
-            altitude,
-            declination,
-            ascension,
-            sun_angle.to_degrees(),
-        ]
-    };
-    for ((sun_angle, [minutes, anomaly, altitude, declination, ascension]), ends) in
-        lines.iter().zip(places.chunks(2))
-    {
-        let [early, late] = [found(&ends[0]), found(&ends[1])];
-        let printed = [
-            anomaly.rem_euclid(360.0),
-            *altitude,
-            *declination,
-            ascension.rem_euclid(360.0),
-        ];
-        for (k, what) in ["T.A.", "ALT", "DEC", "RA"].iter().enumerate() {
-            assert_between(
-                printed[k],
-                0.005,
-                [early[k], late[k]],
-                &format!("{what} at {minutes}"),
-            );
-        }
-        if let Some(sun_angle) = sun_angle {
-            assert_between(
-                *sun_angle,
-                0.0,
-                [early[4], late[4]],
-                &format!("SUN ANGLE at {minutes}"),
-            );
-        }
+    for (printed, ends) in lines.iter().zip(places.chunks(2)) {
+        line_is(printed, [line(&rows, &ends[0]), line(&rows, &ends[1])]);
+    }
+}
+
+fn line_is((sun_angle, printed): &Line, [early, late]: [[f64; 5]; 2]) {
+    let [minutes, anomaly, altitude, declination, ascension] = *printed;
+    let [anomaly, ascension] = [anomaly, ascension].map(|degrees| degrees.rem_euclid(360.0));
+    let printed = [anomaly, altitude, declination, ascension];
+    for (k, what) in ["T.A.", "ALT", "DEC", "RA"].iter().enumerate() {
+        let what = format!("{what} at {minutes}");
+        assert_between(printed[k], 0.005, [early[k], late[k]], &what);
+    }
+    if let Some(sun_angle) = sun_angle {
+        let what = format!("SUN ANGLE at {minutes}");
+        assert_between(*sun_angle, 0.0, [early[4], late[4]], &what);
     }
 }
 

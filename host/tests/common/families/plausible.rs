@@ -50,8 +50,8 @@ pub fn halves(random: &mut Random) -> Pieces {
     })
 }
 
-/// Halves of a metre, of a ms, of a unit of e and of an angle are exact in binary: the odd
-/// multiples of 125 metres / 2000, 2^-31, and 360 degrees / 2^33.
+/// Numbers halfway between two metres, ms, units of e or of an angle, which are exact in binary: the
+/// odd multiples of 62.5 m and of 62.5 ms, of 2^-31, and of 360 degrees / 2^33.
 fn half_near(k: usize, x: f64) -> f64 {
     let half = match k {
         1 | 6 | 7 => 1.0 / 16.0,

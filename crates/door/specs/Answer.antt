@@ -18,9 +18,13 @@ answerOf (Refused r) = record { refusal = numberOf r; field = fieldOf r; number 
 unfoldable pub answerBytes : Answer → List ℕ
 answerBytes a = bytesOf 4 (a .refusal) ++ bytesOf 4 (a .field) ++ bytesOf 8 (a .number) ++ bytesOf 8 (a .intervals) ++ bytesOf 8 (a .asked)
 
+-- 4 + 4 + 8 + 8 + 8
+abbrev pub answerSize : ℕ
+answerSize = 32
+
 -- as long as an answer
 abbrev pub AnswerSized : List ℕ → Type 0
-AnswerSized answer = length answer ≡ 32
+AnswerSized answer = length answer ≡ answerSize
 
 -- its numbers are u32, u32, u64, u64 and u64
 pub record Sized (a : Answer) : Type 0 where

@@ -1,4 +1,4 @@
--- What a call through the door returns and leaves behind: of the record's bytes, the list's and the answer's.
+-- What a call through the door returns and leaves behind. No rule of document 01: include/quechotzal.h says the same in words.
 use Prim.Native.Nat.{ℕ}
 use mathlib.Core.Path.{_≡_}
 use mathlib.Core.Bool.{Bool, cond}
@@ -6,11 +6,11 @@ use mathlib.Core.List.{List}
 use lib.Dec.{eqb}
 use lib.ListN.{length}
 use Rattle.job.specs.Outcome.{outcomeOf, listAfter}
-use Rattle.door.specs.Answer.{answerOf, answerBytes, answerIn, AnswerSized}
+use Rattle.door.specs.Answer.{answerOf, answerBytes, answerIn, answerSize, AnswerSized}
 
--- whether the caller lends 32 bytes for the answer
+-- whether the caller lends as many bytes as an answer has
 abbrev pub heard : List ℕ → Bool
-heard answer = eqb (length answer) 32
+heard answer = eqb (length answer) answerSize
 
 -- 1, or 0 where nothing at all is written
 unfoldable pub returnedOf : List ℕ → ℕ

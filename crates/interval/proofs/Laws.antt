@@ -1,13 +1,12 @@
 -- The record's bytes: four numbers one behind the other. Both round trips, through the laws of little-endian numbers.
-use Prim.Native.Nat.{ℕ, _+_, _^_, _<_}
-use mathlib.Core.Path.{_≡_, refl, sym, ap, _∙_}
+use Prim.Native.Nat.{ℕ, _+_, _<_}
+use mathlib.Core.Path.{_≡_, refl, sym, _∙_}
 use mathlib.Core.List.{List, [], _++_, append-assoc, append-nil}
 use native.Mathlib.Omega.{arith}
-use lib.ListN.{length, drop, length-append}
-use lib.Seq.{sets-eq, drop-length}
+use lib.ListN.{length, length-append}
 use borrow.Author.Tests.{eq-eqb, ne-eqb}
 use Rattle.words.specs.Little.{bytesOf, readOf, putOf, Bytes}
-use Rattle.words.proofs.Stores.{sets-append}
+use Rattle.words.proofs.Stores.{sets-append, sets-all}
 use Rattle.words.proofs.Laws.{length-bytes, put-read, read-among}
 use Rattle.interval.specs.declared.Interval.{Interval}
 use Rattle.interval.specs.declared.Parsed.the-variants.{Record, NoRecord}
@@ -45,13 +44,7 @@ module _ (s : List ℕ) (b : Bytes s) (n : length s ≡ 24) where
 
   pub written-back : recordBytes (recordOf s) ≡ s
   unfolding writeOf
-  written-back =
-      let bytes = recordBytes (recordOf s) in
-      let none : drop (0 + length bytes) s ≡ [] = rw (length-record (recordOf s), ← n) (drop-length s) in
-      sym (append-nil bytes)
-      ∙ ap (λ (l : List ℕ). bytes ++ l) (sym none)
-      ∙ sym (sets-eq bytes s 0 (omega (arith, length-record (recordOf s))))
-      ∙ put-back
+  written-back = sym (sets-all (recordBytes (recordOf s)) s (n ∙ sym (length-record (recordOf s)))) ∙ put-back
 
 -- ---- and the other way: a record is read as it was written
 

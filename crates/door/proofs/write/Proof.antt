@@ -1,5 +1,8 @@
--- `door::write` meets its contract: the five numbers, put one behind the other, are the answer.
-use Rattle.door.proofs.Laws.{answer-puts}
+-- `door::write` meets its contract: the five numbers, put one behind the other, are the answer, which fills the 32 bytes.
+use mathlib.Core.Path.{sym, _∙_}
+use Rattle.words.proofs.Stores.{sets-all}
+use Rattle.door.specs.Answer.{answerBytes}
+use Rattle.door.proofs.Laws.{length-answer, answer-puts}
 use borrow.Author.Needs.{needs}
 use Rattle.door.proofs.write.Statement.{statement}
 use Rattle.door.proofs.write.Tie as tie
@@ -30,7 +33,8 @@ returns c =
     let p2 = p3 .before .before .before .before in
     let p1 = p2 .before .before .before .before in
     let start = p1 .before .before .before in
-    answer-puts (start .args .answer .now) (start .args .a) (start .pre) (p1 .put4 .ensures) (p2 .put42 .ensures) (p3 .put8 .ensures) (p4 .put82 .ensures) (p5 .put83 .ensures)
+    answer-puts (start .args .answer .now) (start .args .a) (p1 .put4 .ensures) (p2 .put42 .ensures) (p3 .put8 .ensures) (p4 .put82 .ensures) (p5 .put83 .ensures)
+    ∙ sets-all (answerBytes (start .args .a)) (start .args .answer .now) (start .pre ∙ sym (length-answer (start .args .a)))
 
 pub write-spec : {M : Type 1} → statement M
 write-spec =

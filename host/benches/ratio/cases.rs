@@ -1,7 +1,9 @@
 //! What is measured.
 
 use super::common::families;
-use super::common::jobs::{any, plausible, windowed, LONGEST_LIST, MARS, MOST_STEPS};
+use super::common::jobs::{
+    any, changing, over, plausible, windowed, LONGEST_LIST, MARS, MOST_STEPS,
+};
 use super::common::random::Random;
 use host::record::{Job, ORBIT};
 
@@ -24,6 +26,8 @@ pub fn all() -> Vec<Case> {
         case("few changes, question 2", few_changes(random, 2)),
         case("a change in each step, question 1", each_step(random, 1)),
         case("a change in each step, question 2", each_step(random, 2)),
+        case("the same phases in each, question 1", same_phases(1)),
+        case("the same phases in each, question 2", same_phases(2)),
         case("10 steps", short(random, 10, 60_000)),
         case("one step of 1 ms", short(random, 1, 1)),
         case("refused: random bytes", families::random_bytes(random)),
@@ -64,6 +68,29 @@ fn each_step(random: &mut Random, question: u32) -> Vec<Vec<u8>> {
     let mut records = families::every_step_changes(random);
     records.retain(asks);
     records
+}
+
+/// A change in each step again, but a step is just an odd number of half turns: every search asks the
+/// same phases, and the processor can learn its branches by heart.
+fn same_phases(question: u32) -> Vec<Vec<u8>> {
+    let job = |(half_turn, half_turns, e)| {
+        let step = half_turn * half_turns;
+        let end = half_turn + MOST_STEPS * step;
+        over(
+            changing(question, e, half_turn, half_turns),
+            half_turn,
+            end,
+            step,
+        )
+    };
+    let shapes = [
+        (30_000, 1, 0.0),
+        (30_000, 21, 0.4),
+        (37_000, 9, 0.1),
+        (65_000, 9, 0.2),
+        (650_000, 1, 0.3),
+    ];
+    shapes.map(|shape| job(shape).encode().to_vec()).to_vec()
 }
 
 fn short(random: &mut Random, steps: u64, step: u64) -> Vec<Vec<u8>> {

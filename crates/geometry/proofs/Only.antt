@@ -16,6 +16,8 @@ use Rattle.geometry.proofs.up.Kinds as up
 use Rattle.geometry.proofs.up.Reads as up-reads
 use Rattle.geometry.proofs.answer.Kinds as answer
 use Rattle.geometry.proofs.answer.Reads as answer-reads
+use Rattle.geometry.proofs.sight_of.Kinds as sight-of
+use Rattle.geometry.proofs.sight_of.Reads as sight-of-reads
 
 pub rotation-of-only : OneResult 1 rotation-of.ps rotation-of.r rotation-of-reads.Post
 rotation-of-only κs a x y s t p q = by-value _ p q
@@ -40,3 +42,6 @@ up-only κs a x y s t p q = by-value _ p q
 
 pub answer-only : OneResult 1 answer.ps answer.r answer-reads.Post
 answer-only κs a x y s t p q = by-value _ p q
+
+pub sight-of-only : OneResult 1 sight-of.ps sight-of.r sight-of-reads.Post
+sight-of-only κs a x y s t p q = by-value _ p q

@@ -4,3 +4,4 @@ pub mod Ready
 pub mod Placed
 pub mod Hidden
 pub mod Visible
+pub mod Sight

@@ -8,6 +8,7 @@ ghost use Rattle.geometry.specs.Ready.{Ready, SoundOrbit, InOrbit, deepe
 ghost use Rattle.geometry.specs.Placed.{meanOf, anomalyOf, settlesAt, placeOf};
 ghost use Rattle.geometry.specs.Hidden.{depthOf, behindOf, hiddenAt};
 ghost use Rattle.geometry.specs.Visible.{zenithOf, upAt, visibleAt, answerAt};
+ghost use Rattle.geometry.specs.Sight.{sightAt, Answered};
 use angle::Angle;
 use elements::rounding::Wholes;
 use rotation::Turn;
@@ -46,6 +47,12 @@ pub struct Orbit {
 pub struct Place {
     pub x: i64,
     pub y: i64,
+}
+
+// What tells why at an instant: whether the planet hides the far body, and whether it is up.
+pub struct Sight {
+    pub hidden: bool,
+    pub up: bool,
 }
 
 // 2^60.
@@ -248,5 +255,30 @@ pub fn answer(t: &[u32], o: Orbit, question: u32, at: u64) -> bool
         hidden(t, o, at)
     } else {
         visible(t, o, at)
+    }
+}
+
+// What tells why at an instant that answered `told`. That answer holds most of it: hidden is asked only of a planet that is down, where `answer`
+// did not ask it.
+pub fn sight_of(t: &[u32], o: Orbit, question: u32, at: u64, told: bool) -> Sight
+    requires { ⌜ (Ready (now t) o) × (Answered o question at told) ⌝ }
+    ensures { λ r. ⌜ r ≡ sightAt o question at ⌝ }
+{
+    if question == 1 {
+        return Sight {
+            hidden: told,
+            up: false,
+        };
+    }
+    if told {
+        return Sight {
+            hidden: false,
+            up: true,
+        };
+    }
+    let risen = up(t, o, at);
+    Sight {
+        hidden: risen || hidden(t, o, at),
+        up: risen,
     }
 }

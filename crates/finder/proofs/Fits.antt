@@ -1,64 +1,26 @@
 -- The list that the finder defines fits its samples (`walk-fits`), and what follows from fitting alone: order, samples, changes, endpoints.
 use Prim.Native.Nat.{ℕ, suc, _+_, _≤_, _<_}
-use mathlib.Core.Path.{_≡_, refl, sym, ap, _∙_}
-use mathlib.Core.Logic.{_≢_, inl, inr}
+use mathlib.Core.Path.{_≡_, refl, sym, _∙_}
+use mathlib.Core.Logic.{inl, inr}
 use mathlib.Core.List.{List, [], _∷_, _++_}
-use mathlib.Core.Bool.{Bool, true, false, _&&_, Bool·beq, true≢false}
+use mathlib.Core.Bool.{Bool, true, false, _&&_, true≢false}
 use native.Mathlib.Omega.{arith}
 use lib.Dec.{leb}
 use lib.ListN.{length, getD}
 use borrow.Author.Tests.{le-leb, lt-leb}
 use Rattle.halving.specs.declared.Edge.{Edge}
-use Rattle.halving.proofs.Laws as halving
 use Rattle.finder.specs.Samples.{longestStep}
-use Rattle.finder.specs.Spans.{Span, span, sameAs, edge, closedIn, firstAfter, ended, walk}
+use Rattle.finder.specs.Spans.{Span, span, edge, closedIn, firstAfter, ended, walk}
 use Rattle.finder.specs.Fits.{Changes, Fits, InOrder, within, listed, Follows, Rising, Short, lastOf, SomeStep, Begun, Endpoints}
 use Rattle.finder.specs.Fits.Fits.{shut, closes, stays, begins, ends}
-use Rattle.finder.proofs.OneStep.{closed-same, first-same, closed-ends, first-ends, closed-begins, first-begins, beq-refl, beq-true}
-
--- ---- the edge of a step
-
-beq-false : (x y z : Bool) → Bool·beq x y ≡ false → y ≢ z → x ≡ z
-beq-false true true z e h = absurd (true≢false e)
-beq-false false false z e h = absurd (true≢false e)
-beq-false true false true e h = refl
-beq-false true false false e h = absurd (h refl)
-beq-false false true false e h = refl
-beq-false false true true e h = absurd (h refl)
-
-beq-differ : (x y : Bool) → x ≢ y → Bool·beq y x ≡ false
-beq-differ true true h = absurd (h refl)
-beq-differ true false h = refl
-beq-differ false true h = refl
-beq-differ false false h = absurd (h refl)
+use Rattle.finder.proofs.OneStep.{closed-same, first-same, closed-ends, first-ends, closed-begins, first-begins}
+use Rattle.finder.proofs.Edged.{Edged, edged}
 
 and-false : (x : Bool) → (x && false) ≡ false
 and-false true = refl
 and-false false = refl
 
--- neighbours within the step that answer as its ends
-record Edged (f : ℕ → Bool) (a b : ℕ) (e : Edge) : Type 0 where
-  next : e .high ≡ e .low + 1
-  from : a ≤ e .low
-  to : e .low < b
-  low : f (e .low) ≡ f a
-  high : f (e .low + 1) ≡ f b
-
-edged : (f : ℕ → Bool) (a b : ℕ) → a ≤ b → b ≤ a + longestStep → f a ≢ f b → Edged f a b (edge f a b)
-unfolding edge
-edged f a b h wide d =
-    go _ (halving.ends (sameAs f a) 20 a b 0 below wide)
-    (halving.differ (sameAs f a) 20 a b 0 (record { low-moves = beq-refl (f a); high-stays = beq-differ (f a) (f b) d }))
-  where
-    below : a < b
-    below = let ne : a ≢ b = λ e. d (ap f e) in omega arith
-
-    go : (e : Edge) → halving.Ends a b e → halving.Differ (sameAs f a) (e .low) (e .high) → Edged f a b e
-    go e k m =
-        let low : f (e .low) ≡ f a = beq-true (f (e .low)) (f a) (m .low-moves) in
-        let high : f (e .high) ≡ f b = beq-false (f (e .high)) (f a) (f b) (m .high-stays) d in
-        record { next = k .neighbours; from = k .from; to = omega (arith, k .neighbours, k .to); low = low; high = rw (← k .neighbours) high }
-
+-- the change between them
 changes : (f : ℕ → Bool) (a b : ℕ) {e : Edge} {x y : Bool} → Edged f a b e → f a ≡ x → f b ≡ y → Changes f x y a b (e .low)
 changes f a b k p q = record { at-a = p; at-b = q; from = k .from; to = k .to; before = k .low ∙ p; after = k .high ∙ q }
 

@@ -1,6 +1,8 @@
 -- The laws of the list, over any yes/no answer.
 pub mod Samples
 pub mod OneStep
+pub mod Edged
+pub mod Flags
 pub mod Records
 pub mod Counts
 pub mod Fits

@@ -36,6 +36,10 @@ module _ (w : Window) where
   steps-fit good = omega (arith, good .end, good .short, div-le-self (w .t1 - w .t0 + (w .step - 1)) (w .step))
 
   module _ (good : Good w) where
+    pub sample-from : (i : ℕ) → w .t0 ≤ sampleAt w i
+    unfolding sampleAt
+    sample-from i = omega (arith, good .window)
+
     pub sample-first : w .t0 ≡ sampleAt w 0
     unfolding sampleAt
     sample-first = omega (arith, good .window)

@@ -2,6 +2,7 @@
 pub mod Samples
 pub mod Spans
 pub mod Asked
+pub mod Flags
 pub mod Records
 pub mod Fits
 pub mod State

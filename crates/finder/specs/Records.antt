@@ -1,10 +1,10 @@
--- What is written and returned (document 01, "What the desk feeds and gets" and "Turned away").
+-- What is written and returned (document 01, "What the desk feeds and gets" and "Turned away"); g tells why at an instant.
 use Prim.Native.Nat.{ℕ, _+_, _*_, _≤_}
 use mathlib.Core.List.{List, [], _∷_, _++_}
-use mathlib.Core.Bool.{Bool, cond}
-use lib.Dec.{eqb}
+use mathlib.Core.Bool.{Bool}
 use lib.ListN.{length}
 use lib.Seq.{sets}
+use Rattle.geometry.specs.declared.Sight.{Sight}
 use Rattle.interval.specs.declared.Interval.{Interval}
 use Rattle.interval.specs.Record.{recordBytes}
 use Rattle.finder.specs.declared.Found.{Found}
@@ -12,23 +12,20 @@ use Rattle.finder.specs.declared.Window.{Window}
 use Rattle.finder.specs.Samples.{mostSteps, ceilDiv, stepsOf}
 use Rattle.finder.specs.Spans.{Span, listOf}
 use Rattle.finder.specs.Asked.{instantsOf}
-
--- flag 1: first = t0. Flag 2: last = t1
-unfoldable pub flagsOf : Window → Span → ℕ
-flagsOf w s = cond (eqb (s .first) (w .t0)) 1 0 + cond (eqb (s .last) (w .t1)) 2 0
+use Rattle.finder.specs.Flags.{flagsOf}
 
 -- an interval's record
-unfoldable pub intervalOf : Window → Span → Interval
-intervalOf w s = record { job = w .job; flags = flagsOf w s; first = s .first; last = s .last }
+unfoldable pub intervalOf : (ℕ → Sight) → Window → Span → Interval
+intervalOf g w s = record { job = w .job; flags = flagsOf g w s; first = s .first; last = s .last }
 
 -- the bytes of a list's records, one behind the other
-unfoldable pub recordsOf : Window → List Span → List ℕ
-recordsOf w [] = []
-recordsOf w (s ∷ l) = recordBytes (intervalOf w s) ++ recordsOf w l
+unfoldable pub recordsOf : (ℕ → Sight) → Window → List Span → List ℕ
+recordsOf g w [] = []
+recordsOf g w (s ∷ l) = recordBytes (intervalOf g w s) ++ recordsOf g w l
 
 -- `out` with the records of l behind `count` records, and every other byte as it was
-abbrev pub written : Window → List ℕ → ℕ → List Span → List ℕ
-written w out count l = sets out (24 * count) (recordsOf w l)
+abbrev pub written : (ℕ → Sight) → Window → List ℕ → ℕ → List Span → List ℕ
+written g w out count l = sets out (24 * count) (recordsOf g w l)
 
 -- the number of intervals, and that of the instants asked
 unfoldable pub foundOf : (ℕ → Bool) → Window → Found

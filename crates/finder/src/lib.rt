@@ -1,13 +1,14 @@
 // The list of a window's intervals: samples, and in each step whose ends differ a search by halving. `t` is the sine table, lent.
 ghost use mathlib.Core.Path.{_≡_};
-ghost use mathlib.Core.List.{[], _∷_};
 ghost use lib.ListN.{length};
 ghost use Rattle.geometry.specs.Ready.{Ready};
 ghost use Rattle.geometry.specs.Visible.{answerAt};
+ghost use Rattle.geometry.specs.Sight.{sightAt};
 ghost use Rattle.finder.specs.Samples.{Good, stepsOf};
-ghost use Rattle.finder.specs.Spans.{span, edge, closedIn, ended, listOf};
-ghost use Rattle.finder.specs.Records.{flagsOf, written, foundOf, HasRoom};
-ghost use Rattle.finder.specs.State.{Sampled, next, Stretch, Few, RoomFor, advanced, finished};
+ghost use Rattle.finder.specs.Spans.{edge, closedIn, ended, listOf};
+ghost use Rattle.finder.specs.Flags.{differing};
+ghost use Rattle.finder.specs.Records.{written, foundOf, HasRoom};
+ghost use Rattle.finder.specs.State.{Sampled, next, Stretch, Along, Turned, Few, RoomFor, Flagged, closedOut, advanced, finished, finishedOut};
 use geometry::Orbit;
 use halving::Edge;
 use interval::Interval;
@@ -26,12 +27,13 @@ pub struct Found {
     pub asked: u64,
 }
 
-// The finder has come to the sample `at`, which answered `was`; where that is yes, the open interval began at `first`. So far it wrote
-// `count` intervals and asked `asked` instants.
+// The finder has come to the sample `at`, which answered `was`; where that is yes, the open interval began at `first`, with the flags `begun`.
+// So far it wrote `count` intervals and asked `asked` instants.
 struct State {
     pub at: u64,
     pub was: bool,
     pub first: u64,
+    pub begun: u32,
     pub count: usize,
     pub asked: u64,
 }
@@ -80,37 +82,41 @@ fn halve(t: &[u32], o: Orbit, question: u32, low: u64, high: u64, was: bool) -> 
     }
 }
 
-// 1 where an interval begins at t0, and 2 where it ends at t1.
-fn flags(w: Window, first: u64, last: u64) -> u32
-    ensures { λ r. ⌜ r ≡ flagsOf w (span first last) ⌝ }
+// Why the answer changes between neighbours, of which the low one answered `was`: 4 where hidden differs, 8 where up does.
+fn why(t: &[u32], o: Orbit, question: u32, e: Edge, was: bool) -> u32
+    requires { ⌜ (Ready (now t) o) × (Turned (answerAt o question) e was) ⌝ }
+    ensures { λ r. ⌜ r ≡ differing 4 8 (sightAt o question (e .low)) (sightAt o question (e .high)) ⌝ }
 {
-    if first == w.t0 {
-        if last == w.t1 { 3 } else { 1 }
+    let low = geometry::sight_of(t, o, question, e.low, was);
+    let high = geometry::sight_of(t, o, question, e.high, !was);
+    if low.hidden == high.hidden {
+        if low.up == high.up { 0 } else { 8 }
     } else {
-        if last == w.t1 { 2 } else { 0 }
+        if low.up == high.up { 4 } else { 12 }
     }
 }
 
-// Writes an interval as the record after the `count` that are there.
-fn put(w: Window, out: &mut [u8], count: usize, first: u64, last: u64)
-    requires { ⌜ RoomFor count 1 (now out) ⌝ }
-    ensures { λ _. ⌜ now (out .exit) ≡ written w (now (out .entry)) count (span first last ∷ []) ⌝ }
+// Closes the open interval at `last`, with these flags for it: the record after the `count` that are there.
+fn put(w: Window, out: &mut [u8], s: State, last: u64, flags: u32)
+    requires { ⌜ (RoomFor (s .count) 1 (now out)) × (Flagged s flags) ⌝ }
+    ensures { λ _. ⌜ now (out .exit) ≡ closedOut w s last flags (now (out .entry)) ⌝ }
 {
     let r = Interval {
         job: w.job,
-        flags: flags(w, first, last),
-        first,
+        flags: s.begun + flags,
+        first: s.first,
         last,
     };
-    interval::write(out, 24 * count, r);
+    interval::write(out, 24 * s.count, r);
 }
 
-// One step, to the sample b. From no to yes: the high neighbour is a first. From yes to no: the low one is a last.
+// One step, to the sample b. From no to yes: the high neighbour is a first. From yes to no: the low one is a last. The flags of a last are
+// four times those of a first.
 fn advance(t: &[u32], o: Orbit, question: u32, w: Window, out: &mut [u8], s: State, b: u64) -> State
-    requires { ⌜ (Ready (now t) o) × (Stretch (answerAt o question) (s .at) b (s .was)) × (Few s) ⌝ }
+    requires { ⌜ (Ready (now t) o) × (Stretch (answerAt o question) (s .at) b (s .was)) × (Along (sightAt o question) w s b) × (Few s) ⌝ }
     requires { ⌜ RoomFor (s .count) (length (closedIn (answerAt o question) (s .first) (s .at) b)) (now out) ⌝ }
-    ensures { λ r. ⌜ r ≡ advanced (answerAt o question) s b ⌝ }
-    ensures { λ _. ⌜ now (out .exit) ≡ written w (now (out .entry)) (s .count) (closedIn (answerAt o question) (s .first) (s .at) b) ⌝ }
+    ensures { λ r. ⌜ r ≡ advanced (answerAt o question) (sightAt o question) w s b ⌝ }
+    ensures { λ _. ⌜ now (out .exit) ≡ written (sightAt o question) w (now (out .entry)) (s .count) (closedIn (answerAt o question) (s .first) (s .at) b) ⌝ }
 {
     let yes = geometry::answer(t, o, question, b);
     if yes == s.was {
@@ -118,39 +124,42 @@ fn advance(t: &[u32], o: Orbit, question: u32, w: Window, out: &mut [u8], s: Sta
             at: b,
             was: yes,
             first: s.first,
+            begun: s.begun,
             count: s.count,
             asked: s.asked + 1,
         };
     }
     let e = halve(t, o, question, s.at, b, s.was);
-    let asked = s.asked + 1 + e.asked;
+    let flags = why(t, o, question, e, s.was);
     if yes {
         return State {
             at: b,
             was: yes,
             first: e.high,
+            begun: flags,
             count: s.count,
-            asked,
+            asked: s.asked + 1 + e.asked,
         };
     }
-    put(w, out, s.count, s.first, e.low);
+    put(w, out, s, e.low, 4 * flags);
     State {
         at: b,
         was: yes,
         first: s.first,
+        begun: s.begun,
         count: s.count + 1,
-        asked,
+        asked: s.asked + 1 + e.asked,
     }
 }
 
 // The end: a yes at the last sample closes an interval there.
 fn close(w: Window, out: &mut [u8], s: State) -> Found
-    requires { ⌜ RoomFor (s .count) (length (ended (s .was) (s .first) (s .at))) (now out) ⌝ }
+    requires { ⌜ (RoomFor (s .count) (length (ended (s .was) (s .first) (s .at))) (now out)) × (Flagged s 2) ⌝ }
     ensures { λ r. ⌜ r ≡ finished s ⌝ }
-    ensures { λ _. ⌜ now (out .exit) ≡ written w (now (out .entry)) (s .count) (ended (s .was) (s .first) (s .at)) ⌝ }
+    ensures { λ _. ⌜ now (out .exit) ≡ finishedOut w s (now (out .entry)) ⌝ }
 {
     if s.was {
-        put(w, out, s.count, s.first, s.at);
+        put(w, out, s, s.at, 2);
         return Found {
             intervals: s.count + 1,
             asked: s.asked,
@@ -166,13 +175,14 @@ fn close(w: Window, out: &mut [u8], s: State) -> Found
 pub fn list(t: &[u32], o: Orbit, question: u32, w: Window, out: &mut [u8]) -> Found
     requires { ⌜ (Ready (now t) o) × (Good w) × (HasRoom w (now out)) ⌝ }
     ensures { λ r. ⌜ r ≡ foundOf (answerAt o question) w ⌝ }
-    ensures { λ _. ⌜ now (out .exit) ≡ written w (now (out .entry)) 0 (listOf (answerAt o question) w) ⌝ }
+    ensures { λ _. ⌜ now (out .exit) ≡ written (sightAt o question) w (now (out .entry)) 0 (listOf (answerAt o question) w) ⌝ }
 {
     let yes = geometry::answer(t, o, question, w.t0);
     let mut s = State {
         at: w.t0,
         was: yes,
         first: w.t0,
+        begun: 1,
         count: 0,
         asked: 1,
     };

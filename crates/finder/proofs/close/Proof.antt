@@ -7,7 +7,7 @@ use Rattle.finder.proofs.close.Tie as tie
 put-requires : tie.Need-put-requires
 put-requires c κs =
     let start = c .before .before .before in
-    last-room (start .args .w) (start .args .s) (start .args .out .now) (c .before .if1 .taken) (start .pre)
+    (last-room (start .args .w) (start .args .s) (start .args .out .now) (c .before .if1 .taken) (start .pre .0), start .pre .1)
 
 add-t8 : tie.Need-add-t8
 add-t8 c = search needs

@@ -2,12 +2,13 @@
 use mathlib.Core.Path.{_∙_}
 use borrow.Author.Needs.{needs}
 use Rattle.geometry.specs.Visible.{answerAt}
-use Rattle.finder.proofs.Going.{Going, going-start, going-sampled, going-stretch, going-few, going-room, going-on, end-room, end-found, end-out}
+use Rattle.geometry.specs.Sight.{sightAt}
+use Rattle.finder.proofs.Going.{Going, going-start, going-sampled, going-stretch, going-along, going-few, going-room, going-on, end-room, end-flagged, end-found, end-out}
 use Rattle.finder.proofs.list.Statement.{statement}
 use Rattle.finder.proofs.list.Tie as tie
 
 abbrev Inv-loop : tie.InvT-loop
-Inv-loop t o question w out₀ yes' s₀ left₀ out s left = Going (answerAt o question) w out₀ out s left
+Inv-loop t o question w out₀ yes' s₀ left₀ out s left = Going (answerAt o question) (sightAt o question) w out₀ out s left
 
 abbrev μ-loop : tie.MeasureT-loop
 μ-loop t o question w out₀ yes' s₀ left₀ out s left = left
@@ -22,7 +23,7 @@ loop-holds : tie.Need-loop-holds Inv-loop μ-loop
 loop-holds c =
     let start = c .before .before .before .before in
     rw (c .steps .ensures)
-    (going-start (answerAt (start .args .o) (start .args .question)) (start .args .w) (start .args .out .now) (start .pre .1) (c .before .answer .result) (c .before .answer .ensures))
+    (going-start (answerAt (start .args .o) (start .args .question)) (sightAt (start .args .o) (start .args .question)) (start .args .w) (start .args .out .now) (start .pre .1) (c .before .answer .result) (c .before .answer .ensures))
 
 sample-requires : tie.Need-sample-requires Inv-loop μ-loop
 sample-requires c κs =
@@ -37,7 +38,7 @@ advance-requires c κs =
     let going = head .loop .inv in
     let b = c .before .sample in
     let good = start .pre .1 in (
-      (start .pre .0, going-stretch good going (b .result) (b .ensures), going-few good going),
+      (start .pre .0, going-stretch good going (b .result) (b .ensures), going-along good going (b .result) (b .ensures), going-few good going),
       going-room good going (c .before .before .loop-test .taken) (start .pre .2) (b .result) (b .ensures),
     )
 
@@ -59,7 +60,10 @@ close-requires : tie.Need-close-requires Inv-loop μ-loop
 close-requires c κs =
     let head = c .before .before in
     let start = head .before .before .before .before .before in
-    end-room (start .pre .1) (head .loop .inv) (c .before .loop-test .left) (start .pre .2)
+    let good = start .pre .1 in (
+      end-room good (head .loop .inv) (c .before .loop-test .left) (start .pre .2),
+      end-flagged good (head .loop .inv) (c .before .loop-test .left),
+    )
 
 same-length : tie.Need-same-length Inv-loop μ-loop
 same-length c = search needs

@@ -18,7 +18,7 @@ beq-false true false false e h = absurd (h refl)
 beq-false false true false e h = refl
 beq-false false true true e h = absurd (h refl)
 
-beq-differ : (x y : Bool) → x ≢ y → Bool·beq y x ≡ false
+pub beq-differ : (x y : Bool) → x ≢ y → Bool·beq y x ≡ false
 beq-differ true true h = absurd (h refl)
 beq-differ true false h = refl
 beq-differ false true h = refl

@@ -191,11 +191,11 @@ module _ (f : ℕ → Bool) where
       → (f a ≡ true → Begun f t0 us first) → Fits f first a ts l → Endpoints f t0 us l
   unfolding lastOf
   endpoints t0 us all end from (shut p) = tt
-  endpoints t0 us all end from (closes p) = (from p, inl end, tt)
+  endpoints t0 us all end from (closes p) = ((from p, inl end), tt)
   endpoints t0 us all end from (stays e r) = endpoints t0 us (λ P k. all P (inr k)) end (λ p. from (e ∙ p)) r
   endpoints t0 us all end from (begins {first} {a} {b} {e} c r) = endpoints t0 us (λ P k. all P (inr k)) end (λ z. inr (all _ (inl (e, refl, c)))) r
   endpoints t0 us all end from (ends c r) =
-      (from (c .at-a), inr (all _ (inl c)), endpoints t0 us (λ P k. all P (inr k)) end (λ z. absurd (clash z (c .at-b))) r)
+      ((from (c .at-a), inr (all _ (inl c))), endpoints t0 us (λ P k. all P (inr k)) end (λ z. absurd (clash z (c .at-b))) r)
 
   -- a yes at the first sample opens an interval there
   pub yes-first : {first a : ℕ} {ts : List ℕ} {l : List Span} → Rising a ts → f a ≡ true → Fits f first a ts l → (0 < length l) × (getD l 0 (span 0 0) .first ≡ first)

@@ -1,7 +1,7 @@
 -- The flags of an interval, by cases on what differs: how great they are, what they are at either end, and each bit read back.
-use Prim.Native.Nat.{ℕ, _+_, _-_, _*_, _≤_, _<_}
+use Prim.Native.Nat.{ℕ, _+_, _-_, _*_, _/_, _%_, _≤_, _<_}
 use mathlib.Core.Path.{_≡_, refl, ap, _∙_}
-use mathlib.Core.Bool.{Bool, true, false, cond, Bool·beq}
+use mathlib.Core.Bool.{Bool, true, false, cond, not, _&&_, Bool·beq}
 use native.Mathlib.Omega.{arith}
 use native.Mathlib.Nat.{add-sub-cancel}
 use lib.Dec.{eqb}
@@ -9,7 +9,7 @@ use borrow.Author.Tests.{eq-eqb, ne-eqb}
 use Rattle.geometry.specs.declared.Sight.{Sight}
 use Rattle.finder.specs.declared.Window.{Window}
 use Rattle.finder.specs.Spans.{Span}
-use Rattle.finder.specs.Flags.{differing, firstFlags, lastFlags, flagsOf}
+use Rattle.finder.specs.Flags.{differing, firstFlags, lastFlags, flagsOf, has, Says}
 
 -- a number, or none
 cond-most : (x : Bool) (n : ℕ) → cond x 0 n ≤ n
@@ -76,3 +76,67 @@ module _ (g : ℕ → Sight) (w : Window) where
   pub last-before : (t : ℕ) → t < w .t1 → lastFlags g w t ≡ 4 * differing 4 8 (g t) (g (t + 1))
   unfolding lastFlags
   last-before t h = rw (ne-eqb t (w .t1) (λ e. omega arith)) (four-times (g t) (g (t + 1)))
+
+-- ---- read back
+
+abbrev one : Bool → ℕ
+one x = cond x 1 0
+
+-- six bits
+abbrev bitsOf : Bool → Bool → Bool → Bool → Bool → Bool → ℕ
+bitsOf a b c d e f = one a + 2 * one b + 4 * one c + 8 * one d + 16 * one e + 32 * one f
+
+one-most : (x : Bool) → one x ≤ 1
+one-most true = omega arith
+one-most false = omega arith
+
+bit-set : (bit n : ℕ) (x : Bool) → (n / bit) % 2 ≡ one x → has bit n ≡ x
+unfolding has
+bit-set bit n true e = rw e
+bit-set bit n false e = rw e
+
+-- those at a first
+first-bits : (x h u : Bool) → cond x 1 (cond h 0 4 + cond u 0 8) ≡ one x + 4 * one (not x && not h) + 8 * one (not x && not u)
+first-bits true h u = refl
+first-bits false true true = refl
+first-bits false true false = refl
+first-bits false false true = refl
+first-bits false false false = refl
+
+-- those at a last
+last-bits : (x h u : Bool) → cond x 2 (cond h 0 16 + cond u 0 32) ≡ 2 * one x + 16 * one (not x && not h) + 32 * one (not x && not u)
+last-bits true h u = refl
+last-bits false true true = refl
+last-bits false true false = refl
+last-bits false false true = refl
+last-bits false false false = refl
+
+-- n is made of them
+module _ (a b c d e f : Bool) (n : ℕ) (is : n ≡ bitsOf a b c d e f) where
+  bits-back : (has 1 n ≡ a) × (has 2 n ≡ b) × (has 4 n ≡ c) × (has 8 n ≡ d) × (has 16 n ≡ e) × (has 32 n ≡ f)
+  bits-back =
+      let a1 = one-most a in
+      let b1 = one-most b in
+      let c1 = one-most c in
+      let d1 = one-most d in
+      let e1 = one-most e in (
+        bit-set 1 n a (omega arith),
+        bit-set 2 n b (omega arith),
+        bit-set 4 n c (omega arith),
+        bit-set 8 n d (omega arith),
+        bit-set 16 n e (omega arith),
+        bit-set 32 n f (omega (arith, one-most f)),
+      )
+
+pub flags-say : (g : ℕ → Sight) (w : Window) (s : Span) → Says g w s (flagsOf g w s)
+unfolding flagsOf firstFlags lastFlags differing
+flags-say g w s =
+    let x = eqb (s .first) (w .t0) in
+    let h = Bool·beq (g (s .first - 1) .hidden) (g (s .first) .hidden) in
+    let u = Bool·beq (g (s .first - 1) .up) (g (s .first) .up) in
+    let y = eqb (s .last) (w .t1) in
+    let k = Bool·beq (g (s .last) .hidden) (g (s .last + 1) .hidden) in
+    let v = Bool·beq (g (s .last) .up) (g (s .last + 1) .up) in
+    let sum : flagsOf g w s ≡ bitsOf x y (not x && not h) (not x && not u) (not y && not k) (not y && not v) = omega (arith, first-bits x h u, last-bits y k v) in
+    let back = bits-back x y (not x && not h) (not x && not u) (not y && not k) (not y && not v) (flagsOf g w s) sum in
+    record { from-start = back .0; to-end = back .1; first-hidden = back .2; first-up = back .3; last-hidden = back .4; last-up = back .5 }

@@ -11,3 +11,5 @@ pub mod Going
 pub mod Listed
 pub mod Only
 pub mod Asked
+pub mod Neighbours
+pub mod Reasons

@@ -10,8 +10,8 @@ use native.Mathlib.Decide.{decLe}
 use lib.ListN.{length, getD}
 use Rattle.finder.specs.declared.Window.{Window}
 use Rattle.finder.specs.Samples.{Good, stepsOf, sampleAt, samplesFrom, samples}
-use Rattle.finder.specs.Spans.{Span, span, listOf}
-use Rattle.finder.specs.Fits.{Changes, Fits, InOrder, listed, Step, Follows, SomeStep, Begun, Over, Endpoints}
+use Rattle.finder.specs.Spans.{Span, span, Each, listOf}
+use Rattle.finder.specs.Fits.{Changes, Fits, InOrder, listed, Step, Follows, SomeStep, Begun, Over}
 use Rattle.finder.proofs.Samples.{sample-first, samples-rise, samples-short, samples-end}
 use Rattle.finder.proofs.Fits.{walk-fits, in-order, follows, endpoints, yes-first, yes-last}
 
@@ -47,11 +47,11 @@ some-step P w (suc k) i (inr later) =
     let e : suc i + found .0 ≡ i + suc (found .0) = omega arith in
     (suc (found .0), omega (arith, found .1), subst (λ (n : ℕ). P (sampleAt w n) (sampleAt w (suc n))) e (found .2))
 
--- the ends of interval j
-endpoints-at : (f : ℕ → Bool) (t0 : ℕ) (ts : List ℕ) (l : List Span) (j : ℕ) → Endpoints f t0 ts l → j < length l → let s = getD l j (span 0 0) in Begun f t0 ts (s .first) × Over f t0 ts (s .last)
-endpoints-at f t0 ts [] j all h = absurd (omega arith)
-endpoints-at f t0 ts (s ∷ l) zero all h = (all .0, all .1)
-endpoints-at f t0 ts (s ∷ l) (suc j) all h = endpoints-at f t0 ts l j (all .2) (omega arith)
+-- what each interval has interval j has
+pub each-at : (P : Span → Type 0) (l : List Span) (j : ℕ) → Each P l → j < length l → P (getD l j (span 0 0))
+each-at P [] j all h = absurd (omega arith)
+each-at P (s ∷ l) zero all h = all .0
+each-at P (s ∷ l) (suc j) all h = each-at P l j (all .1) (omega arith)
 
 -- a step whose ends agree holds no change
 pub still : {f g : ℕ → Bool} {a b : ℕ} → Step f g a b → f a ≡ f b → (t : ℕ) → a ≤ t → t ≤ b → g t ≡ f a
@@ -93,7 +93,7 @@ module _ (w : Window) (good : Good w) (f : ℕ → Bool) where
     one = getD (listOf f w) j (span 0 0)
 
     both-ends : Begun f (w .t0) (samples w) (one .first) × Over f (w .t0) (samples w) (one .last)
-    both-ends = endpoints-at f (w .t0) (samples w) (listOf f w) j (endpoints f (w .t0) (samples w) (λ P k. k) refl (λ p. inl refl) list-fits) below
+    both-ends = each-at _ (listOf f w) j (endpoints f (w .t0) (samples w) (λ P k. k) refl (λ p. inl refl) list-fits) below
 
     step-at : (P : ℕ → ℕ → Type 0) → SomeStep P (w .t0) (samples w) → (i : ℕ) × (i < stepsOf w) × P (sampleAt w i) (sampleAt w (suc i))
     unfolding samples

@@ -1,11 +1,13 @@
 -- The instants asked, over any yes/no answer f (document 01, "The list": n+1 samples and one per halving).
-use Prim.Native.Nat.{ℕ, _+_}
+use Prim.Native.Nat.{ℕ, _+_, _-_}
+use mathlib.Core.Path.{_≡_}
+use mathlib.Core.Logic.{_⊎_}
 use mathlib.Core.List.{List, [], _∷_, _++_}
 use mathlib.Core.Bool.{Bool, cond}
-use Rattle.halving.specs.Halving.{middlesOf}
+use Rattle.halving.specs.Halving.{middlesOf, Among}
 use Rattle.finder.specs.declared.Window.{Window}
 use Rattle.finder.specs.Samples.{samples}
-use Rattle.finder.specs.Spans.{sameAs}
+use Rattle.finder.specs.Spans.{Span, Each, sameAs}
 
 -- the middles of a step from a to b, one per halving; none where its ends agree
 unfoldable pub middlesIn : (ℕ → Bool) → ℕ → ℕ → List ℕ
@@ -27,3 +29,17 @@ changesIn f a (b ∷ ts) = cond (sameAs f a b) 0 1 + changesIn f b ts
 
 unfoldable pub changesOf : (ℕ → Bool) → Window → ℕ
 changesOf f w = changesIn f (w .t0) (samples w)
+
+-- ---- both instants at an end were asked already (document 02, wish 1)
+
+-- a first is t0, or both it and the instant before it are among these
+abbrev pub FirstAsked : Window → List ℕ → ℕ → Type 0
+FirstAsked w asked first = (first ≡ w .t0) ⊎ (Among (first - 1) asked × Among first asked)
+
+-- a last is t1, or both it and the instant after it are
+abbrev pub LastAsked : Window → List ℕ → ℕ → Type 0
+LastAsked w asked last = (last ≡ w .t1) ⊎ (Among last asked × Among (last + 1) asked)
+
+-- so each interval begins and ends
+abbrev pub EndsAsked : Window → List ℕ → List Span → Type 0
+EndsAsked w asked = Each (λ s. FirstAsked w asked (s .first) × LastAsked w asked (s .last))

@@ -7,7 +7,7 @@ use mathlib.Core.List.{List, [], _∷_}
 use mathlib.Core.Bool.{Bool, true, false, _&&_, _||_}
 use lib.Dec.{leb}
 use Rattle.finder.specs.Samples.{longestStep}
-use Rattle.finder.specs.Spans.{Span, span}
+use Rattle.finder.specs.Spans.{Span, span, Each}
 
 -- ---- the relation
 
@@ -92,5 +92,4 @@ Over f t0 ts t = (t ≡ lastOf t0 ts) ⊎ SomeStep (λ a b. Changes f true false
 
 -- so each interval begins and ends
 abbrev pub Endpoints : (ℕ → Bool) → ℕ → List ℕ → List Span → Type 0
-Endpoints f t0 ts [] = Unit {0}
-Endpoints f t0 ts (s ∷ l) = Begun f t0 ts (s .first) × Over f t0 ts (s .last) × Endpoints f t0 ts l
+Endpoints f t0 ts = Each (λ s. Begun f t0 ts (s .first) × Over f t0 ts (s .last))

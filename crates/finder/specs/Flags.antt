@@ -1,8 +1,10 @@
 -- The flags of an interval (document 01, "What the desk feeds and gets"; document 02, wish 1), over any answers g for hidden and up at one instant.
 use Prim.Native.Nat.{ℕ, _+_, _-_, _/_, _%_}
-use mathlib.Core.Bool.{Bool, cond, Bool·beq}
+use mathlib.Core.Path.{_≡_}
+use mathlib.Core.Bool.{Bool, true, false, cond, not, _&&_, _||_, Bool·beq}
 use lib.Dec.{eqb}
 use Rattle.geometry.specs.declared.Sight.{Sight}
+use Rattle.geometry.specs.Sight.{answerBy}
 use Rattle.finder.specs.declared.Window.{Window}
 use Rattle.finder.specs.Spans.{Span}
 
@@ -22,6 +24,29 @@ lastFlags g w last = cond (eqb last (w .t1)) 2 (differing 16 32 (g last) (g (las
 unfoldable pub flagsOf : (ℕ → Sight) → Window → Span → ℕ
 flagsOf g w s = firstFlags g w (s .first) + lastFlags g w (s .last)
 
+-- ---- read back
+
 -- whether the flags have a bit
 unfoldable pub has : ℕ → ℕ → Bool
-has flag flags = eqb ((flags / flag) % 2) 1
+has bit flags = eqb ((flags / bit) % 2) 1
+
+abbrev pub differ : Bool → Bool → Bool
+differ x y = not (Bool·beq x y)
+
+-- each of the six bits is set exactly where it is to be
+pub record Says (g : ℕ → Sight) (w : Window) (s : Span) (flags : ℕ) : Type 0 where
+  pub from-start : has 1 flags ≡ eqb (s .first) (w .t0)
+  pub to-end : has 2 flags ≡ eqb (s .last) (w .t1)
+  pub first-hidden : has 4 flags ≡ (not (eqb (s .first) (w .t0)) && differ (g (s .first - 1) .hidden) (g (s .first) .hidden))
+  pub first-up : has 8 flags ≡ (not (eqb (s .first) (w .t0)) && differ (g (s .first - 1) .up) (g (s .first) .up))
+  pub last-hidden : has 16 flags ≡ (not (eqb (s .last) (w .t1)) && differ (g (s .last) .hidden) (g (s .last + 1) .hidden))
+  pub last-up : has 32 flags ≡ (not (eqb (s .last) (w .t1)) && differ (g (s .last) .up) (g (s .last + 1) .up))
+
+-- at an end which the window does not cut, with one bit for hidden and one for up: to question 1 exactly the first, to question 2 at least one
+abbrev pub Why : ℕ → Bool → Bool → Type 0
+Why question hidden up = (question ≡ 1 → (hidden ≡ true) × (up ≡ false)) × (question ≡ 2 → (hidden || up) ≡ true)
+
+-- the answers f to a question are told by g, which tells no up for question 1
+pub record Tells (question : ℕ) (f : ℕ → Bool) (g : ℕ → Sight) : Type 0 where
+  pub answer : (t : ℕ) → f t ≡ answerBy question (g t)
+  pub no-up : question ≡ 1 → (t : ℕ) → g t .up ≡ false

@@ -15,6 +15,11 @@ pub record Span : Type 0 where
 abbrev pub span : ℕ → ℕ → Span
 span first last = record { first = first; last = last }
 
+-- each interval of a list has it
+abbrev pub Each : (Span → Type 0) → List Span → Type 0
+Each P [] = Unit {0}
+Each P (s ∷ l) = P s × Each P l
+
 -- m answers as a
 abbrev pub sameAs : (ℕ → Bool) → ℕ → ℕ → Bool
 sameAs f a m = Bool·beq (f m) (f a)

@@ -1,6 +1,7 @@
 -- The laws of halving, over any yes/no answer, each by one induction that follows the search.
 use Prim.Native.Nat.{ℕ, zero, suc, _+_, _^_, _≤_, _<_}
-use mathlib.Core.Path.{_≡_, refl}
+use mathlib.Core.Path.{_≡_, refl, ap}
+use mathlib.Core.List.{_∷_}
 use mathlib.Core.Bool.{Bool, true, false, cond}
 use native.Mathlib.Omega.{arith}
 use native.Mathlib.Nat.{pow-succ'}
@@ -136,8 +137,8 @@ module _ (moves : ℕ → Bool) where
   middles-done zero low high h = refl
   middles-done (suc k) low high h = rw (le-ltb (low + 1) high h)
 
-  middles-turn : (t : Bool) (k low high : ℕ) → low + 1 < high → moves (middle low high) ≡ t
-      → length (middlesOf moves (suc k) low high) ≡ suc (length (middlesOf moves k (cond t (middle low high) low) (cond t high (middle low high))))
+  pub middles-turn : (t : Bool) (k low high : ℕ) → low + 1 < high → moves (middle low high) ≡ t
+      → let m = middle low high in middlesOf moves (suc k) low high ≡ m ∷ middlesOf moves k (cond t m low) (cond t high m)
   unfolding middlesOf
   middles-turn t k low high h e = rw (lt-ltb (low + 1) high h, e)
 
@@ -146,5 +147,5 @@ module _ (moves : ℕ → Bool) where
       follow (λ k low high asked e. e .asked ≡ asked + length (middlesOf moves k low high))
       (λ low high asked. omega (arith, middles-none low high))
       (λ k low high asked near. omega (arith, middles-done k low high near))
-      (λ k low high asked e far t rest. omega (arith, middles-turn true k low high far t))
-      (λ k low high asked e far t rest. omega (arith, middles-turn false k low high far t))
+      (λ k low high asked e far t rest. omega (arith, ap length (middles-turn true k low high far t)))
+      (λ k low high asked e far t rest. omega (arith, ap length (middles-turn false k low high far t)))

@@ -2,3 +2,4 @@
 pub mod Laws
 pub mod Loop
 pub mod Alike
+pub mod Among

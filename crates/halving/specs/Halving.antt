@@ -31,3 +31,8 @@ middlesOf moves (suc k) low high =
 abbrev pub Alike : (ℕ → Bool) → (ℕ → Bool) → List ℕ → Type 0
 Alike f g [] = Unit {0}
 Alike f g (t ∷ ts) = (g t ≡ f t) × Alike f g ts
+
+-- t is one of these points: for the law that a search ends at points that it was given or asked
+pub data Among (t : ℕ) : List ℕ → Type 0 where
+  here : {x : ℕ} {xs : List ℕ} → t ≡ x → Among t (x ∷ xs)
+  later : {x : ℕ} {xs : List ℕ} → Among t xs → Among t (x ∷ xs)

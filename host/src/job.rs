@@ -77,18 +77,29 @@ fn write(job: &Job, sight: &Sight, list: &mut [u8]) -> Found {
         |t| sight.answer(t),
         |first, last| {
             let place = places.next().expect("row 9 left room");
-            place.copy_from_slice(&interval(job, first, last).encode());
+            place.copy_from_slice(&interval(job, sight, first, last).encode());
         },
     )
 }
 
 /// Document 01, What the desk feeds and gets: flag 1: first = t0; flag 2: last = t1.
-fn interval(job: &Job, first: u64, last: u64) -> Interval {
-    let at_start = u32::from(first == job.t0);
-    let at_end = u32::from(last == job.t1);
+///
+/// Document 02, wish 1: at any other first 4 if hidden differs from the instant
+/// before and 8 if up does; at any other last 16 and 32, from the instant after.
+fn interval(job: &Job, sight: &Sight, first: u64, last: u64) -> Interval {
+    let at_first = if first == job.t0 {
+        1
+    } else {
+        4 * sight.why(first - 1)
+    };
+    let at_last = if last == job.t1 {
+        2
+    } else {
+        16 * sight.why(last + 1)
+    };
     Interval {
         job: job.job,
-        flags: at_start + 2 * at_end,
+        flags: at_first + at_last,
         first,
         last,
     }

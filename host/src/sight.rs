@@ -1,4 +1,5 @@
-//! Document 01, Hidden and visible: the answer at one instant.
+//! Document 01, Hidden and visible: the answer at one instant; and document 02,
+//! wish 1: why it changes.
 
 use crate::place::Place;
 use crate::record::Job;
@@ -125,5 +126,20 @@ impl Sight {
         } else {
             self.visible(t)
         }
+    }
+
+    /// Document 02, wish 1: what differs between `outside`, which answers no,
+    /// and an instant next to it which answers yes: 1 hidden, plus 2 up.
+    ///
+    /// Question 1 tells of hidden alone, which is its answer and so differs. In
+    /// question 2 the yes is up and not hidden: only `outside` is looked at, and
+    /// where that is up, its no can only mean hidden.
+    pub fn why(&self, outside: u64) -> u32 {
+        if self.question == 1 {
+            return 1;
+        }
+        let up = self.station.up(outside);
+        let hidden = up || self.shadow.hidden(outside);
+        u32::from(hidden) + 2 * u32::from(!up)
     }
 }

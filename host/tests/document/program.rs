@@ -22,7 +22,7 @@ fn program_with_nothing() {
 #[test]
 fn program_with_job_7() {
     let expected = [
-        interval(0, 3_000_000, 4_200_000).encode(),
+        interval(4 + 16, 3_000_000, 4_200_000).encode(),
         closing(7, 512, 1, 52),
     ];
     assert_eq!(program(&job7().encode()), expected.concat());
@@ -47,7 +47,7 @@ fn program_with_refusals_goes_on() {
     let expected = [
         closing(0x0102_0304, 260, 9, 0),
         closing(9, 258, 0, 0),
-        interval(0, 3_000_000, 4_200_000).encode(),
+        interval(4 + 16, 3_000_000, 4_200_000).encode(),
         closing(7, 512, 1, 52),
         closing(0, 257, 0, 0),
     ];

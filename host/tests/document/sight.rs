@@ -37,7 +37,7 @@ fn up_along_minus_E_and_at_equality() {
     job.question = 2;
     (job.t0, job.t1, job.step) = (43_199_000, 43_201_000, 1000);
     let (answer, intervals) = run(&job);
-    assert_eq!(intervals, [interval(0, 43_200_000, 43_200_000)]);
+    assert_eq!(intervals, [interval(8 + 32, 43_200_000, 43_200_000)]);
     assert_eq!((answer.refusal, answer.intervals), (0, 1));
 }
 
@@ -58,10 +58,10 @@ fn visible_is_up_and_not_hidden() {
     let mut job = job7_in(36_000_000, 43_200_000, 600_000);
     job.question = 2;
     let (answer, intervals) = run(&job);
-    let before = interval(1, 36_000_000, 38_999_999);
-    let after = interval(2, 40_200_001, 43_200_000);
+    let before = interval(1 + 16, 36_000_000, 38_999_999);
+    let after = interval(4 + 2, 40_200_001, 43_200_000);
     assert_eq!(intervals, [before, after]);
     assert_eq!(answer.intervals, 2);
     job.question = 1;
-    assert_eq!(run(&job).1, [interval(0, 39_000_000, 40_200_000)]);
+    assert_eq!(run(&job).1, [interval(4 + 16, 39_000_000, 40_200_000)]);
 }

@@ -48,7 +48,10 @@ fn earth_is_hidden(angles: Angles, enter: f64, exit: f64, time: f64) {
     let [out_of, whole, into] = shadows[..] else {
         panic!("{shadows:?}")
     };
-    assert_eq!([out_of.flags, whole.flags, into.flags], [1, 0, 2]);
+    assert_eq!(
+        [out_of.flags, whole.flags, into.flags],
+        [1 + 16, 4 + 16, 4 + 2]
+    );
     assert_eq!([out_of.first, into.last], [0, t1]);
     assert_eq!(
         [whole.last - out_of.last, into.first - whole.first],

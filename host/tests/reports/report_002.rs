@@ -37,7 +37,7 @@ fn up(visible: &[Interval], hidden: &[Interval]) -> Vec<[u64; 2]> {
 
 /// No times are printed. By hand, with Greenwich at 0 and a turn in 86,400 s: the half arc is acos(sin 5° / cos 35.24°) =
 /// 83.8742212°, and the transit comes (360 − 243.11)/360 of a day after midnight. Mars hides the craft once on the second
-/// and the third day while it is up.
+/// and the third day while it is up: a pass from rise to set, and two from rise to Mars and from Mars to set.
 #[test]
 fn an_example_mars_over_goldstone() {
     let half_arc = (5.0f64.to_radians().sin() / 35.24f64.to_radians().cos())
@@ -53,6 +53,8 @@ fn an_example_mars_over_goldstone() {
     let (visible, hidden) = (three_days(0.0, 2), three_days(0.0, 1));
     let up = up(&visible, &hidden);
     assert_eq!([visible.len(), hidden.len(), up.len()], [5, 3, 3]);
+    let flags: Vec<u32> = visible.iter().map(|pass| pass.flags).collect();
+    assert_eq!(flags, [8 + 32, 8 + 16, 4 + 32, 8 + 16, 4 + 32]);
     for (day, [first, last]) in (0..).zip(up) {
         assert_near(rise * 60_000.0, (first - day * DAY) as f64, 2.0, "rise, ms");
         assert_near(set * 60_000.0, (last - day * DAY) as f64, 2.0, "set, ms");

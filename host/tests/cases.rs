@@ -8,7 +8,7 @@ use common::families::{self, Pieces};
 use common::jobs::{self, LONGEST_LIST, MOST_STEPS};
 use common::random::Random;
 use common::told;
-use host::record::{Interval, INTERVAL};
+use host::record::{Interval, Job, INTERVAL};
 use host::Answer;
 use std::collections::BTreeSet;
 
@@ -135,6 +135,65 @@ fn plausible_jobs_have_lists() {
             .count();
         assert!(2 * full > pieces.len(), "{full} of {}", pieces.len());
     }
+}
+
+/// A question and the flags of an interval, and whether that is but an instant.
+type Kind = (u32, u32, bool);
+
+/// The kinds of intervals that the pieces' lists have.
+fn kinds(pieces: &[Vec<u8>]) -> BTreeSet<Kind> {
+    let kinds_of = |piece: &Vec<u8>| {
+        let question = Job::decode(piece).map_or(0, |job| job.question);
+        let kind = move |i: Interval| (question, i.flags, i.first == i.last);
+        listed(piece).1.into_iter().map(kind)
+    };
+    pieces.iter().flat_map(kinds_of).collect()
+}
+
+fn assert_among(expected: impl IntoIterator<Item = Kind>, kinds: &BTreeSet<Kind>) {
+    for kind in expected {
+        assert!(kinds.contains(&kind), "{kind:?} is not among {kinds:?}");
+    }
+}
+
+/// Visible from the window's beginning, from the shadow or from a rise on, to the window's end, to
+/// the shadow or to a set: each with each. Hidden from or to the window's ends, and between them.
+#[test]
+fn every_reason_comes_up() {
+    let mut random = Random::of("every_reason_comes_up");
+    let mut pieces = families::mars(&mut random);
+    pieces.extend(families::venus(&mut random));
+    pieces.extend(families::earth(&mut random));
+    let kinds = kinds(&pieces);
+    let each_last = |first: u32| [2, 16, 32].map(|last| (2, first + last, false));
+    assert_among([1, 4, 8].into_iter().flat_map(each_last), &kinds);
+    let of_shadows = [4 + 2, 1 + 16, 4 + 16].map(|flags| (1, flags, false));
+    assert_among(of_shadows, &kinds);
+}
+
+/// Either reason and both, of which question 1 tells one, at a first and at a last; and where these
+/// are but an instant, the first is t1, or the last t0.
+#[test]
+fn both_reasons_come_up() {
+    let pieces = families::shadow_meets_horizon(&mut Random::of("both_reasons_come_up"));
+    let kinds = kinds(&pieces);
+    for instant in [false, true] {
+        assert_among([4 + 2, 1 + 16].map(|flags| (1, flags, instant)), &kinds);
+        for reasons in [1, 2, 1 + 2] {
+            let ends = [4 * reasons + 2, 1 + 16 * reasons];
+            assert_among(ends.map(|flags| (2, flags, instant)), &kinds);
+        }
+    }
+}
+
+/// The horizon's flicker makes long lists.
+#[test]
+fn many_rises_and_sets() {
+    let pieces = families::flickering(&mut Random::of("many_rises_and_sets"));
+    let from_rise_to_set = |interval: &Interval| interval.flags == 8 + 32;
+    let lists = pieces.iter().flat_map(|piece| listed(piece).1);
+    let count = lists.filter(from_rise_to_set).count();
+    assert!(count > 100 * pieces.len(), "{count} in {}", pieces.len());
 }
 
 /// An interval begins and ends with a change, but at the window's ends.

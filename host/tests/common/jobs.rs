@@ -5,6 +5,8 @@ use host::record::{Interval, Job, INTERVAL};
 use host::{refusal, sight};
 use std::f64::consts::TAU;
 
+/// One unit of angle, in degrees.
+pub const UNIT: f64 = 360.0 / 4_294_967_296.0;
 pub const DAY: u64 = sight::DAY as u64;
 pub const MONTH: u64 = refusal::LATEST;
 pub const LONGEST_STEP: u64 = refusal::LONGEST_STEP as u64;
@@ -128,6 +130,12 @@ pub fn changes(job: Job) -> Vec<u64> {
     let ends = |record| Interval::decode(record).map_or([0, 0], |r| [r.first, r.last]);
     let ends = list.chunks(INTERVAL).take(intervals).flat_map(ends);
     ends.filter(|end| ![0, MONTH].contains(end)).collect()
+}
+
+/// When the planet is highest on the first day, in ms: it stands in the south or in the north.
+pub fn highest(job: &Job) -> f64 {
+    let [.., ascension, _, _, longitude, greenwich, _] = job.fields;
+    (ascension + 900.0 - longitude - greenwich) % 360.0 / 360.0 * DAY as f64
 }
 
 /// A change in each of 4,096 steps: a step is an odd number of half turns and a little more, and

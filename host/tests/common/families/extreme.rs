@@ -2,7 +2,7 @@
 
 use super::super::jobs::{self, over, DAY, LONGEST_STEP, MONTH, MOST_STEPS};
 use super::super::random::Random;
-use super::Pieces;
+use super::{digit, Pieces};
 use host::record::Job;
 use host::refusal::{Range, RANGES};
 
@@ -26,14 +26,6 @@ const WINDOWS: [(u64, u64, u64); 12] = [
     (0, MONTH, OF_THE_MONTH),
     (0, MONTH, LONGEST_STEP),
 ];
-
-/// One of the choices by the number's last digit, which is taken off: all combinations come up as
-/// the number counts.
-fn digit<T: Copy>(number: &mut usize, choices: &[T]) -> T {
-    let choice = choices[*number % choices.len()];
-    *number /= choices.len();
-    choice
-}
 
 /// Every combination of round and most eccentric, equatorial, polar and retrograde, each of the
 /// windows and both questions.

@@ -1,12 +1,9 @@
 //! Jobs as a desk would send them, and accepted jobs in which every unit counts.
 
-use super::super::jobs::{self, around_a_change, over, Planet, DAY, EARTH, MARS, VENUS};
+use super::super::jobs::{self, around_a_change, over, Planet, EARTH, MARS, UNIT, VENUS};
 use super::super::random::Random;
 use super::Pieces;
 use host::record::Job;
-
-/// One unit of angle, in degrees.
-const UNIT: f64 = 360.0 / 4_294_967_296.0;
 
 /// So many jobs, question 1 and 2 in turn.
 fn jobs(count: u32, mut job: impl FnMut(u32) -> Job) -> Pieces {
@@ -107,14 +104,12 @@ fn touching(random: &mut Random, mut job: Job) -> Job {
     about(random, job, moment, 10_000)
 }
 
-/// The far body is highest when it stands in the south or in the north.
 fn culminating(random: &mut Random, mut job: Job) -> Job {
-    let [.., ascension, declination, latitude, longitude, greenwich, _] = job.fields;
+    let [.., declination, latitude, _, _, _] = job.fields;
     let highest = 90.0 - (latitude + declination).abs();
     job.fields[12] = (highest + UNIT * random.float(-200.0, 200.0)).clamp(0.0, 90.0);
     job.fields[6] = 1.0;
-    let moment = (ascension + 900.0 - longitude - greenwich) % 360.0 / 360.0 * DAY as f64;
-    about(random, job, moment, 1_000)
+    about(random, job, jobs::highest(&job), 1_000)
 }
 
 fn about(random: &mut Random, job: Job, moment: f64, step: u64) -> Job {

@@ -1,4 +1,4 @@
-//! Document 01's own numbers, its refusals and lists, and properties over seeded pseudo-random jobs: a file for each paragraph.
+//! Document 01's own numbers, its refusals and lists, document 02's wish 1, and properties over seeded pseudo-random jobs: a file for each paragraph.
 
 #![allow(non_snake_case)]
 
@@ -17,3 +17,4 @@ mod search;
 mod sight;
 mod sine;
 mod whole;
+mod why;

@@ -1,5 +1,6 @@
 //! What has to hold of any job, over seeded pseudo-random ones.
 
+use crate::common::families;
 use crate::helpers::*;
 use host::program;
 use host::record::{Interval, Job, INTERVAL, ORBIT};
@@ -14,8 +15,15 @@ fn samples(job: &Job) -> Vec<u64> {
     samples
 }
 
-/// Every property of one list; how many changed steps it had.
-fn check_list(job: &Job) -> usize {
+/// What a list had, so that it is seen whether the jobs were worth looking at.
+struct Seen {
+    changed_steps: usize,
+    /// All flags that came up.
+    flags: u32,
+}
+
+/// Every property of one list.
+fn check_list(job: &Job) -> Seen {
     let sight = Sight::of(job);
     let (answer, intervals) = run(job);
     assert_eq!(answer.refusal, 0);
@@ -26,13 +34,17 @@ fn check_list(job: &Job) -> usize {
         assert_eq!(inside, sight.answer(t), "sample {t}");
     }
     let steps = samples.windows(2);
-    let changed = steps
+    let changed_steps = steps
         .map(|step| check_step(step[0], step[1], &sight, &intervals))
         .sum();
     let (asked, sampled) = (answer.asked as usize, samples.len());
-    assert!(sampled <= asked && asked <= sampled + 20 * changed);
+    assert!(sampled <= asked && asked <= sampled + 20 * changed_steps);
     assert_eq!(answer.asked, counted(job, &sight));
-    changed
+    let flags = intervals.iter().fold(0, |flags, i| flags | i.flags);
+    Seen {
+        changed_steps,
+        flags,
+    }
 }
 
 /// In order, inside the window, an instant between neighbours, and the answer
@@ -40,14 +52,41 @@ fn check_list(job: &Job) -> usize {
 fn check_intervals(job: &Job, sight: &Sight, intervals: &[Interval]) {
     for each in intervals {
         assert!(job.t0 <= each.first && each.first <= each.last && each.last <= job.t1);
-        let flags = u32::from(each.first == job.t0) + 2 * u32::from(each.last == job.t1);
-        assert_eq!((each.job, each.flags), (job.job, flags));
+        assert_eq!((each.job, each.flags), (job.job, flags(job, sight, each)));
+        check_reasons(job, each);
         assert!(sight.answer(each.first) && sight.answer(each.last));
         assert!(each.first == job.t0 || !sight.answer(each.first - 1));
         assert!(each.last == job.t1 || !sight.answer(each.last + 1));
     }
     for pair in intervals.windows(2) {
         assert!(pair[0].last + 1 < pair[1].first, "neighbours touch");
+    }
+}
+
+/// Document 01's two flags and the four of document 02, wish 1, as they are worded.
+fn flags(job: &Job, sight: &Sight, each: &Interval) -> u32 {
+    let (first, last) = (each.first, each.last);
+    let hidden_differs = |t| sight.shadow.hidden(t) != sight.shadow.hidden(t + 1);
+    let up_differs = |t| job.question == 2 && sight.station.up(t) != sight.station.up(t + 1);
+    let flags = [
+        (1, first == job.t0),
+        (2, last == job.t1),
+        (4, first != job.t0 && hidden_differs(first - 1)),
+        (8, first != job.t0 && up_differs(first - 1)),
+        (16, last != job.t1 && hidden_differs(last)),
+        (32, last != job.t1 && up_differs(last)),
+    ];
+    let set = flags.iter().filter(|(_, set)| *set);
+    set.map(|(flag, _)| flag).sum()
+}
+
+/// A first above t0 and a last below t1 have a reason; in question 1 it is hidden alone.
+fn check_reasons(job: &Job, each: &Interval) {
+    let (at_first, at_last) = (each.flags & (4 + 8), each.flags & (16 + 32));
+    assert_eq!(at_first == 0, each.first == job.t0);
+    assert_eq!(at_last == 0, each.last == job.t1);
+    if job.question == 1 {
+        assert!([0, 4].contains(&at_first) && [0, 16].contains(&at_last));
     }
 }
 
@@ -82,16 +121,28 @@ fn counted(job: &Job, sight: &Sight) -> u64 {
 #[test]
 fn lists_of_random_jobs() {
     let mut random = Random::of("lists_of_random_jobs");
-    let (mut changed, mut with_two) = (0, 0);
+    let (mut changed, mut with_two, mut flags) = (0, 0, 0);
     for _ in 0..600 {
-        let of_job = check_list(&random.job());
-        changed += of_job;
-        with_two += usize::from(of_job >= 2);
+        let seen = check_list(&random.job());
+        changed += seen.changed_steps;
+        with_two += usize::from(seen.changed_steps >= 2);
+        flags |= seen.flags;
     }
     assert!(
-        changed > 1000 && with_two > 80,
-        "too tame: {changed}, {with_two}"
+        changed > 1000 && with_two > 80 && flags == 63,
+        "too tame: {changed}, {with_two}, {flags}"
     );
+}
+
+/// Both reasons at an end, and many ends: what random jobs do not have.
+#[test]
+fn lists_of_shadow_and_horizon() {
+    let mut random = Random::of("lists_of_shadow_and_horizon");
+    let mut pieces = families::shadow_meets_horizon(&mut random);
+    pieces.extend(families::flickering(&mut random).into_iter().take(4));
+    for piece in pieces {
+        check_list(&Job::decode(&piece).unwrap());
+    }
 }
 
 #[test]

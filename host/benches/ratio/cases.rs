@@ -6,6 +6,7 @@ use super::common::jobs::{
 };
 use super::common::random::Random;
 use host::record::{Job, ORBIT};
+use std::cmp::Reverse;
 
 pub struct Case {
     pub name: &'static str,
@@ -28,6 +29,7 @@ pub fn all() -> Vec<Case> {
         case("a change in each step, question 2", each_step(random, 2)),
         case("the same phases in each, question 1", same_phases(1)),
         case("the same phases in each, question 2", same_phases(2)),
+        case("a horizon that flickers, question 2", flickering()),
         case("10 steps", short(random, 10, 60_000)),
         case("one step of 1 ms", short(random, 1, 1)),
         case("refused: random bytes", families::random_bytes(random)),
@@ -91,6 +93,17 @@ fn same_phases(question: u32) -> Vec<Vec<u8>> {
         (650_000, 1, 0.3),
     ];
     shapes.map(|shape| job(shape).encode().to_vec()).to_vec()
+}
+
+/// Rises and sets from ms to ms. The ends are many, none takes a halving, and below the horizon hidden
+/// has not been asked: the reasons of the ends, document 02's wish 1, are most of the work. Those with
+/// the longest lists; from numbers of their own, so that the other cases stay as they are.
+fn flickering() -> Vec<Vec<u8>> {
+    let mut records = families::flickering(&mut Random::of("flickering"));
+    let intervals = |record: &Vec<u8>| host::list(record, &mut vec![0; LONGEST_LIST]).intervals;
+    records.sort_by_key(|record| Reverse(intervals(record)));
+    records.truncate(5);
+    records
 }
 
 fn short(random: &mut Random, steps: u64, step: u64) -> Vec<Vec<u8>> {

@@ -24,12 +24,12 @@ fn always_up() -> Job {
     visible(180.0, 0.0)
 }
 
-/// The first instant at which the planet is up.
+/// The planet is up from this instant on.
 fn rising_at(t: u64) -> Job {
     visible(90.0, t as f64 - 0.5)
 }
 
-/// The last instant at which the planet is up.
+/// The planet is up to this instant.
 fn setting_after(t: u64) -> Job {
     visible(270.0, t as f64 + 0.5)
 }

@@ -1,9 +1,9 @@
 """Document 01's rules in exact arithmetic: from an orbit record to what one instant answers, and from the program's input to its output.
 
-One function for each rule, in document 01's order and letters. It uses nothing of the crates, so that their numbers can be held against it;
-but it is no independent reading of document 01 (docs/DECISIONS.md, "The stored output"). Whole numbers and fractions only, but for the closest
-distance, which document 01 wants in floats. // is Python's floor, toward minus infinity. `at(orbit(record), t)` is one instant of a record that
-document 01 accepts, and `output(records)` is what the program writes.
+One function for each rule, in document 01's order and letters, with what document 02's wish 1 adds to the flags. It uses nothing of the crates, so
+that their numbers can be held against it; but it is no independent reading of document 01 (docs/DECISIONS.md, "The stored output"). Whole numbers
+and fractions only, but for the closest distance, which document 01 wants in floats. // is Python's floor, toward minus infinity.
+`at(orbit(record), t)` is one instant of a record that document 01 accepts, and `output(records)` is what the program writes.
 """
 from collections import namedtuple
 from fractions import Fraction
@@ -303,8 +303,23 @@ def interval_record(job, flags, first, last):
     return pack("<IIQQ", job, flags, first, last)
 
 
-def flags(first, last, t0, t1):
-    return 1 * (first == t0) + 2 * (last == t1)
+def flags(o, question, t0, t1, first, last):
+    """1: first = t0. 2: last = t1. Else, at first: 4 if the hidden answer differs between first − 1 and first, 8 if the up answer differs; at last: 16
+    and 32, between last and last + 1. Question 1 uses only 4 and 16."""
+    bits = 0
+    if first == t0:
+        bits += 1
+    else:
+        before, here = at(o, first - 1), at(o, first)
+        bits += 4 * (before.hidden != here.hidden)
+        bits += 8 * (question == 2 and before.up != here.up)
+    if last == t1:
+        bits += 2
+    else:
+        here, after = at(o, last), at(o, last + 1)
+        bits += 16 * (here.hidden != after.hidden)
+        bits += 32 * (question == 2 and here.up != after.up)
+    return bits
 
 
 def reply(piece):
@@ -314,7 +329,7 @@ def reply(piece):
         return interval_record(read(piece).job if number > 1 else 0, 256 + number, field, 0)
     r, o = read(piece), orbit(piece)
     found, asked = intervals(lambda t: answer(o, r.question, t), r.t0, r.t1, r.step)
-    records = [interval_record(r.job, flags(first, last, r.t0, r.t1), first, last) for first, last in found]
+    records = [interval_record(r.job, flags(o, r.question, r.t0, r.t1, first, last), first, last) for first, last in found]
     return b"".join(records) + interval_record(r.job, 512, len(found), asked)
 
 

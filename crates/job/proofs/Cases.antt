@@ -15,27 +15,28 @@ use Rattle.elements.specs.declared.reading.Elements.{Elements}
 use Rattle.elements.specs.declared.reading.Reading.the-variants as reading
 use Rattle.elements.proofs.Rows.{ordered}
 use Rattle.elements.proofs.Exactly.{read-exactly, refused-exactly}
+use Rattle.geometry.specs.declared.Sight.{Sight}
 use Rattle.finder.specs.declared.Window.{Window}
 use Rattle.finder.specs.declared.Found.{Found}
 use Rattle.finder.specs.Spans.{listOf}
 use Rattle.finder.specs.Records.{recordsOf, foundOf}
 use Rattle.job.specs.Table.{windowOf, questionOf, windowRow, stepRow, questionRow, roomRow, rowsBeforeSearch, rowsFromSearch, rowsFromWindow, tableOf}
-use Rattle.job.specs.Outcome.{answersOf, answersIn, outcomeFrom, recordsFrom, outcomeOf, recordsIn, listAfter}
+use Rattle.job.specs.Outcome.{answersOf, sightsOf, answersIn, sightsIn, outcomeFrom, recordsFrom, outcomeOf, recordsIn, listAfter}
 use Rattle.job.specs.declared.Outcome.{Outcome}
 use Rattle.job.specs.declared.Outcome.the-variants.{Listed, Refused}
 
 -- ---- by a verdict
 
-module _ (f : ℕ → Bool) (w : Window) (old : List ℕ) where
+module _ (f : ℕ → Bool) (g : ℕ → Sight) (w : Window) (old : List ℕ) where
   -- the answer r and the bytes `new` are those of the verdict v
   abbrev pub Answers : Verdict → Outcome → List ℕ → Type 0
-  Answers v r new = (r ≡ outcomeFrom v f w) × (new ≡ sets old 0 (recordsFrom v f w))
+  Answers v r new = (r ≡ outcomeFrom v f w) × (new ≡ sets old 0 (recordsFrom v f g w))
 
   pub refused : (v : Verdict) (r : Refusal) → v ≡ verdict.Refused r → Answers v (Refused r) old
   unfolding outcomeFrom recordsFrom
   refused v r h = rw h (refl, refl)
 
-  pub listed : (v : Verdict) (n : Found) (new : List ℕ) → v ≡ verdict.Passed → n ≡ foundOf f w → new ≡ sets old 0 (recordsOf w (listOf f w)) → Answers v (Listed (n .intervals) (n .asked)) new
+  pub listed : (v : Verdict) (n : Found) (new : List ℕ) → v ≡ verdict.Passed → n ≡ foundOf f w → new ≡ sets old 0 (recordsOf g w (listOf f w)) → Answers v (Listed (n .intervals) (n .asked)) new
   unfolding outcomeFrom recordsFrom
   listed v n new h a b = rw (h, a) (refl, b)
 
@@ -68,10 +69,10 @@ module _ (s old : List ℕ) where
   unfolding outcomeOf listAfter recordsIn
   unread r h =
       let gives = first-exactly (recordRows s) (ordered s) r .1 (refused-exactly s r .0 h) in
-      refused (answersIn s) (windowOf s) old (first (tableOf s (length old))) r (stops _ _ _ (table-parts s (length old)) r gives)
+      refused (answersIn s) (sightsIn s) (windowOf s) old (first (tableOf s (length old))) r (stops _ _ _ (table-parts s (length old)) r gives)
 
   pub was-read : (e : Elements) (r : Outcome) (new : List ℕ) → readingOf s ≡ reading.Read e
-      → Answers (answersOf e (questionOf s)) (windowOf s) old (first (rowsFromWindow e (windowOf s) (questionOf s) (length old))) r new → Meets r new
+      → Answers (answersOf e (questionOf s)) (sightsOf e (questionOf s)) (windowOf s) old (first (rowsFromWindow e (windowOf s) (questionOf s) (length old))) r new → Meets r new
   unfolding outcomeOf listAfter recordsIn
   was-read e r new h a =
       let p = read-exactly s e .0 h in

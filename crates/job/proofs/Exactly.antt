@@ -32,7 +32,7 @@ use Rattle.finder.specs.Samples.{mostSteps, Good, stepsOf}
 use Rattle.finder.specs.Spans.{listOf}
 use Rattle.finder.specs.Records.{recordsOf, foundOf, roomOf}
 use Rattle.job.specs.Table.{windowOf, questionOf, badWindow, badStep, badQuestion, noRoom, orbitWith, rowsFromWindow, tableOf}
-use Rattle.job.specs.Outcome.{intervalsOf, askedOf, answersIn, outcomeFrom, recordsFrom, outcomeOf, recordsIn, listAfter}
+use Rattle.job.specs.Outcome.{intervalsOf, askedOf, answersIn, sightsIn, outcomeFrom, recordsFrom, outcomeOf, recordsIn, listAfter}
 use Rattle.job.specs.declared.Outcome.the-variants.{Listed, Refused}
 use Rattle.job.proofs.Laws.{both, good, few-steps, one-or-two, roomy, kepler-passes}
 use Rattle.job.proofs.Cases.{table-parts}
@@ -183,7 +183,7 @@ module _ (s : List ℕ) (room : ℕ) where
     listed-asked = ap askedOf same
 
     -- the list afterwards has the records
-    pub listed-bytes : (list : List ℕ) → length list ≡ room → listAfter s list ≡ sets list 0 (recordsOf (windowOf s) (listOf (answersIn s) (windowOf s)))
+    pub listed-bytes : (list : List ℕ) → length list ≡ room → listAfter s list ≡ sets list 0 (recordsOf (sightsIn s) (windowOf s) (listOf (answersIn s) (windowOf s)))
     unfolding listAfter recordsIn recordsFrom
     listed-bytes list e = rw (e, listed-first n asked h)
 

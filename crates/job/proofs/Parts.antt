@@ -18,13 +18,14 @@ use Rattle.interval.specs.declared.Interval.{Interval}
 use Rattle.interval.specs.Record.{recordBytes, writeOf}
 use Rattle.interval.proofs.Laws.{length-record}
 use Rattle.words.proofs.Stores.{sets-append, sets-front}
+use Rattle.geometry.specs.declared.Sight.{Sight}
 use Rattle.finder.specs.declared.Window.{Window}
 use Rattle.finder.specs.Spans.{listOf}
 use Rattle.finder.specs.Records.{foundOf, roomOf}
 use Rattle.finder.proofs.Records.{length-records}
 use Rattle.finder.proofs.Counts.{list-most}
 use Rattle.job.specs.Table.{windowOf, tableOf}
-use Rattle.job.specs.Outcome.{intervalsOf, answersIn, outcomeFrom, recordsFrom, outcomeOf, recordsIn, listAfter}
+use Rattle.job.specs.Outcome.{intervalsOf, answersIn, sightsIn, outcomeFrom, recordsFrom, outcomeOf, recordsIn, listAfter}
 use Rattle.job.specs.Reply.{jobOf, closingOf, replyOf}
 use Rattle.job.specs.declared.Outcome.{Outcome}
 use Rattle.job.proofs.Laws.{roomy}
@@ -32,17 +33,17 @@ use Rattle.job.proofs.Laws.{roomy}
 -- ---- the interval records
 
 -- 24 bytes for each interval
-length-from : (v : Verdict) (f : ℕ → Bool) (w : Window) → length (recordsFrom v f w) ≡ 24 * intervalsOf (outcomeFrom v f w)
+length-from : (v : Verdict) (f : ℕ → Bool) (g : ℕ → Sight) (w : Window) → length (recordsFrom v f g w) ≡ 24 * intervalsOf (outcomeFrom v f w)
 unfolding recordsFrom outcomeFrom foundOf
-length-from verdict.Passed f w = length-records w (listOf f w)
-length-from (verdict.Refused r) f w = refl
+length-from verdict.Passed f g w = length-records g w (listOf f w)
+length-from (verdict.Refused r) f g w = refl
 
-fits-from : (v : Verdict) (f : ℕ → Bool) (w : Window) (room : ℕ) → (v ≡ verdict.Passed → roomOf w ≤ room) → length (recordsFrom v f w) ≤ room
+fits-from : (v : Verdict) (f : ℕ → Bool) (g : ℕ → Sight) (w : Window) (room : ℕ) → (v ≡ verdict.Passed → roomOf w ≤ room) → length (recordsFrom v f g w) ≤ room
 unfolding recordsFrom roomOf
-fits-from verdict.Passed f w room h =
+fits-from verdict.Passed f g w room h =
     let l = listOf f w in
-    omega (arith, length-records w l, list-most f w, h refl)
-fits-from (verdict.Refused r) f w room h = omega arith
+    omega (arith, length-records g w l, list-most f w, h refl)
+fits-from (verdict.Refused r) f g w room h = omega arith
 
 module _ (s : List ℕ) (room : ℕ) where
   table-roomy : first (tableOf s room) ≡ verdict.Passed → roomOf (windowOf s) ≤ room
@@ -51,11 +52,11 @@ module _ (s : List ℕ) (room : ℕ) where
 
   length-list : length (recordsIn s room) ≡ 24 * intervalsOf (outcomeOf s room)
   unfolding recordsIn outcomeOf
-  length-list = length-from (first (tableOf s room)) (answersIn s) (windowOf s)
+  length-list = length-from (first (tableOf s room)) (answersIn s) (sightsIn s) (windowOf s)
 
   records-fit : length (recordsIn s room) ≤ room
   unfolding recordsIn
-  records-fit = fits-from (first (tableOf s room)) (answersIn s) (windowOf s) room table-roomy
+  records-fit = fits-from (first (tableOf s room)) (answersIn s) (sightsIn s) (windowOf s) room table-roomy
 
 -- ---- the reply
 

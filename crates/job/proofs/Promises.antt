@@ -6,6 +6,7 @@
 --   stepsOf, sampleAt                                      finder/specs/Samples.antt       listOf                              finder/specs/Spans.antt
 --   instantsOf, changesOf                                  finder/specs/Asked.antt         recordsOf, intervalOf, roomForAny   finder/specs/Records.antt
 --   Fits, InOrder, listed, Changes                         finder/specs/Fits.antt          recordBytes, parsedOf               interval/specs/Record.antt
+--   flagsOf, has, Says, Why                                finder/specs/Flags.antt         sightsIn                            job/specs/Outcome.antt
 use Prim.Native.Nat.{ℕ, suc, _+_, _*_, _≤_, _<_}
 use mathlib.Core.Path.{_≡_, refl, sym, ap, subst, _∙_}
 use mathlib.Core.Logic.{_↔_, _⊎_, _≢_}
@@ -22,7 +23,7 @@ use lib.Ieee.{Float}
 use lib.Ieee.Positive.{positive}
 use lib.Ieee.Scale.{finite}
 use Rattle.words.specs.Little.{Bytes}
-use Rattle.halving.specs.Halving.{Alike}
+use Rattle.halving.specs.Halving.{Alike, Among}
 use Rattle.refusal.specs.Refusal.{numberOf, fieldOf, zero, valueOf, bitsOf, orderOf}
 use Rattle.refusal.specs.Rows.{rowAt, Gives, Passes}
 use Rattle.refusal.specs.declared.Refusal.{Refusal}
@@ -34,20 +35,27 @@ use Rattle.elements.specs.Reading.{elementsOf, Returns}
 use Rattle.elements.specs.Accepted.{Accepted}
 use Rattle.geometry.specs.Hidden.{hiddenAt}
 use Rattle.geometry.specs.Visible.{upAt, visibleAt, answerAt}
+use Rattle.geometry.specs.declared.Sight.{Sight}
+use Rattle.geometry.specs.Sight.{sightAt}
+use Rattle.geometry.proofs.Told.{answer-by, no-up}
 use Rattle.interval.specs.Record.{recordBytes, parsedOf}
 use Rattle.interval.specs.declared.Parsed.the-variants.{Record}
 use Rattle.finder.specs.declared.Window.{Window}
 use Rattle.finder.specs.Samples.{mostSteps, Good, stepsOf, sampleAt, samples}
 use Rattle.finder.specs.Spans.{Span, span, listOf}
-use Rattle.finder.specs.Asked.{instantsOf, changesOf}
+use Rattle.finder.specs.Asked.{instantsOf, changesOf, FirstAsked, LastAsked}
+use Rattle.finder.specs.Flags.{flagsOf, has, Says, Why, Tells}
 use Rattle.finder.specs.Records.{intervalOf, recordsOf, foundOf, roomForAny}
 use Rattle.finder.specs.Fits.{Changes, Fits, InOrder, listed}
 use Rattle.finder.proofs.Samples.{sample-first, sample-end}
 use Rattle.finder.proofs.Counts.{instants-most}
-use Rattle.finder.proofs.Listed.{list-fits, list-in-order, list-sample, list-step, still, list-first, list-last, list-opens, list-closes}
+use Rattle.finder.proofs.Flags.{flags-say}
+use Rattle.finder.proofs.Listed.{each-at, list-fits, list-in-order, list-sample, list-step, still, list-first, list-last, list-opens, list-closes}
 use Rattle.finder.proofs.Asked.{list-alike}
+use Rattle.finder.proofs.Neighbours.{list-asked, records-alike}
+use Rattle.finder.proofs.Reasons.{first-why, last-why}
 use Rattle.job.specs.Table.{windowOf, questionOf, orbitWith, tableOf}
-use Rattle.job.specs.Outcome.{intervalsOf, askedOf, answersIn, outcomeOf, listAfter}
+use Rattle.job.specs.Outcome.{intervalsOf, askedOf, answersIn, sightsIn, outcomeOf, listAfter}
 use Rattle.job.specs.declared.Outcome.{Outcome}
 use Rattle.job.specs.declared.Outcome.the-variants.{Listed, Refused}
 use Rattle.job.proofs.Exactly as exactly
@@ -82,7 +90,7 @@ module _ {s old : List ℕ} {o : Outcome} {new : List ℕ} (job : Job s old o ne
   good : {n k : ℕ} → o ≡ Listed n k → Good (windowOf s)
   good h = exactly.listed-good s (length old) (told h)
 
--- In what follows, of one job: its room in bytes, its window and step, the yes or no at each instant, and the list of intervals.
+-- In what follows, of one job: its room in bytes, its window and step, the yes or no at each instant, what tells why there, and the list of intervals.
 module _ (s old : List ℕ) (o : Outcome) (new : List ℕ) (job : Job s old o new) where
   abbrev room : ℕ
   room = length old
@@ -92,6 +100,9 @@ module _ (s old : List ℕ) (o : Outcome) (new : List ℕ) (job : Job s old o ne
 
   abbrev f : ℕ → Bool
   f = answersIn s
+
+  abbrev g : ℕ → Sight
+  g = sightsIn s
 
   abbrev l : List Span
   l = listOf f w
@@ -166,6 +177,24 @@ module _ (s old : List ℕ) (o : Outcome) (new : List ℕ) (job : Job s old o ne
   unfolding answerAt visibleAt
   asks-visible q t = rw q
 
+  -- what tells why an interval begins or ends is both at the same instant: hidden
+  pub tells-hidden : (t : ℕ) → g t .hidden ≡ hiddenAt (orbitWith (elementsOf s)) t
+  unfolding sightAt
+  tells-hidden t = refl
+
+  -- and up, for question 2
+  pub tells-up : questionOf s ≡ 2 → (t : ℕ) → g t .up ≡ upAt (orbitWith (elementsOf s)) t
+  unfolding sightAt
+  tells-up q t = rw q
+
+  -- question 1 uses only hidden: no up is told
+  pub tells-no-up : questionOf s ≡ 1 → (t : ℕ) → g t .up ≡ false
+  tells-no-up q t = no-up (orbitWith (elementsOf s)) (questionOf s) t q
+
+  -- and so are the answers
+  tells : Tells (questionOf s) f g
+  tells = record { answer = answer-by (orbitWith (elementsOf s)) (questionOf s); no-up = tells-no-up }
+
   -- n intervals were listed, and k instants asked
   module _ {n k : ℕ} (h : o ≡ Listed n k) where
     -- the question was one of these two
@@ -178,20 +207,33 @@ module _ (s old : List ℕ) (o : Outcome) (new : List ℕ) (job : Job s old o ne
     intervals-is = exactly.listed-intervals s room (told job h)
 
     -- its records are written from byte 0, and every byte behind them stays
-    pub list-is : new ≡ recordsOf w l ++ drop (24 * n) old
+    pub list-is : new ≡ recordsOf g w l ++ drop (24 * n) old
     list-is = job .bytes ∙ records-then-rest s old (told job h)
 
     -- record i has the bytes of interval i
-    pub record-bytes : (i : ℕ) → i < n → take 24 (drop (24 * i) new) ≡ recordBytes (intervalOf w (getD l i (span 0 0)))
+    pub record-bytes : (i : ℕ) → i < n → take 24 (drop (24 * i) new) ≡ recordBytes (intervalOf g w (getD l i (span 0 0)))
     record-bytes i below = ap (λ (x : List ℕ). take 24 (drop (24 * i) x)) (job .bytes) ∙ written.record-bytes s old (told job h) i below
 
     -- and reads as interval i
-    pub reads-as : Bytes s → (i : ℕ) → i < n → parsedOf (take 24 (drop (24 * i) new)) ≡ Record (intervalOf w (getD l i (span 0 0)))
+    pub reads-as : Bytes s → (i : ℕ) → i < n → parsedOf (take 24 (drop (24 * i) new)) ≡ Record (intervalOf g w (getD l i (span 0 0)))
     reads-as b i below = ap (λ (x : List ℕ). parsedOf (take 24 (drop (24 * i) x))) (job .bytes) ∙ written.record-is s old (told job h) i below b
 
+    -- each of its six flags is set exactly where it is to be
+    pub flags-are : (i : ℕ) → i < n → let one = getD l i (span 0 0) in Says g w one (intervalOf g w one .flags)
+    unfolding intervalOf
+    flags-are i below = flags-say g w (getD l i (span 0 0))
+
     -- the list is made of the answers at the instants asked, and no others: any answer that is alike there has the same list
-    pub only-asked : (g : ℕ → Bool) → Alike f g (instantsOf f w) → (listOf g w ≡ l) × (instantsOf g w ≡ instantsOf f w)
-    only-asked g = list-alike f g w
+    pub only-asked : (f′ : ℕ → Bool) → Alike f f′ (instantsOf f w) → (listOf f′ w ≡ l) × (instantsOf f′ w ≡ instantsOf f w)
+    only-asked f′ = list-alike f f′ w
+
+    -- where a first is not t0, it and the instant before it were asked already; where a last is not t1, it and the instant after it
+    pub ends-asked : (i : ℕ) → i < n → let one = getD l i (span 0 0) in FirstAsked w (instantsOf f w) (one .first) × LastAsked w (instantsOf f w) (one .last)
+    ends-asked i below = each-at _ l i (list-asked w (good job h) f) (subst (λ (m : ℕ). i < m) intervals-is below)
+
+    -- so the records' flags are made of what is told at the instants asked, and no others
+    pub only-told : (g′ : ℕ → Sight) → ((t : ℕ) → Among t (instantsOf f w) → g′ t ≡ g t) → recordsOf g′ w l ≡ recordsOf g w l
+    only-told g′ alike = records-alike g g′ w (instantsOf f w) alike l (list-asked w (good job h) f)
 
     -- ---- 3. Whatever the answers are
 
@@ -236,6 +278,14 @@ module _ (s old : List ℕ) (o : Outcome) (new : List ℕ) (job : Job s old o ne
     pub each-last : (j : ℕ) → j < n → let t = getD l j (span 0 0) .last in
         (t ≡ w .t1) ⊎ ((i : ℕ) × (i < stepsOf w) × Changes f true false (sampleAt w i) (sampleAt w (suc i)) t)
     each-last j below = list-last w (good job h) f j (subst (λ (m : ℕ). j < m) intervals-is below)
+
+    -- and says why: 4 or 8 is set of a first above t0, to question 1 exactly 4
+    pub first-says-why : (i : ℕ) → i < n → let one = getD l i (span 0 0) in w .t0 < one .first → Why (questionOf s) (has 4 (flagsOf g w one)) (has 8 (flagsOf g w one))
+    first-says-why i below = first-why (questionOf s) f g tells w (good job h) i (subst (λ (m : ℕ). i < m) intervals-is below)
+
+    -- 16 or 32 of a last below t1, to question 1 exactly 16
+    pub last-says-why : (i : ℕ) → i < n → let one = getD l i (span 0 0) in one .last < w .t1 → Why (questionOf s) (has 16 (flagsOf g w one)) (has 32 (flagsOf g w one))
+    last-says-why i below = last-why (questionOf s) f g tells w (good job h) i (subst (λ (m : ℕ). i < m) intervals-is below)
 
     -- a yes at t0 opens the first interval there
     pub yes-at-start : f (w .t0) ≡ true → (0 < n) × (getD l 0 (span 0 0) .first ≡ w .t0)

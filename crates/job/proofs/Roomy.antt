@@ -16,7 +16,7 @@ use Rattle.finder.specs.declared.Window.{Window}
 use Rattle.finder.specs.Samples.{mostSteps, stepsOf}
 use Rattle.finder.specs.Records.{roomOf, roomForAny}
 use Rattle.job.specs.Table.{windowOf, questionOf, noRoom, windowRow, stepRow, questionRow, roomRow, rowsBeforeSearch, rowsFromSearch, tableOf}
-use Rattle.job.specs.Outcome.{answersIn, outcomeFrom, recordsFrom, outcomeOf, recordsIn}
+use Rattle.job.specs.Outcome.{answersIn, sightsIn, outcomeFrom, recordsFrom, outcomeOf, recordsIn}
 use Rattle.job.specs.Reply.{roomForReply, replyOf}
 use Rattle.job.specs.declared.Outcome.the-variants.{Refused}
 use Rattle.job.proofs.Laws.{both, few-steps}
@@ -65,7 +65,7 @@ module _ (s : List ℕ) (a b : ℕ) (p : roomForAny ≤ a) (r : roomForAny ≤ b
 
   same-records : recordsIn s a ≡ recordsIn s b
   unfolding recordsIn
-  same-records = ap (λ (v : Verdict). recordsFrom v (answersIn s) (windowOf s)) same-verdict
+  same-records = ap (λ (v : Verdict). recordsFrom v (answersIn s) (sightsIn s) (windowOf s)) same-verdict
 
 -- with 24 bytes more for the closing record
 pub reply-roomy : (s : List ℕ) (room : ℕ) → roomForReply ≤ room → replyOf s room ≡ replyOf s roomForReply

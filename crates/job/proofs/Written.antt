@@ -16,10 +16,11 @@ use Rattle.elements.specs.Reading.{WholeRecord}
 use Rattle.finder.specs.Spans.{Span, span, listOf}
 use Rattle.finder.specs.Records.{intervalOf, recordsOf, foundOf, roomOf}
 use Rattle.finder.proofs.Counts.{list-most}
-use Rattle.finder.proofs.Records.{length-records, record-at, flags-most, in-order-at}
+use Rattle.finder.proofs.Flags.{flags-most}
+use Rattle.finder.proofs.Records.{length-records, record-at, in-order-at}
 use Rattle.finder.proofs.Listed.{list-in-order}
 use Rattle.job.specs.Table.{windowOf}
-use Rattle.job.specs.Outcome.{answersIn, outcomeOf, listAfter}
+use Rattle.job.specs.Outcome.{answersIn, sightsIn, outcomeOf, listAfter}
 use Rattle.job.specs.declared.Outcome.the-variants.{Listed}
 use Rattle.job.proofs.Exactly.{listed-whole, listed-good, listed-roomy, listed-intervals, listed-bytes}
 
@@ -32,16 +33,16 @@ module _ (s old : List ℕ) {n k : ℕ} (h : outcomeOf s (length old) ≡ Listed
   l = listOf (answersIn s) (windowOf s)
 
   abbrev bytes : List ℕ
-  bytes = recordsOf (windowOf s) l
+  bytes = recordsOf (sightsIn s) (windowOf s) l
 
   counts : length bytes ≡ 24 * n
   unfolding foundOf
-  counts = length-records (windowOf s) l ∙ ap (λ (m : ℕ). 24 * m) (sym (listed-intervals s (length old) h))
+  counts = length-records (sightsIn s) (windowOf s) l ∙ ap (λ (m : ℕ). 24 * m) (sym (listed-intervals s (length old) h))
 
   fit : 0 + length bytes ≤ length old
   unfolding roomOf
   fit =
-      omega (arith, length-records (windowOf s) l, list-most (answersIn s) (windowOf s), listed-roomy s (length old) h)
+      omega (arith, length-records (sightsIn s) (windowOf s) l, list-most (answersIn s) (windowOf s), listed-roomy s (length old) h)
 
   -- the records from byte 0, and every byte behind them as it was
   pub records-then-rest : listAfter s old ≡ bytes ++ drop (24 * n) old
@@ -58,7 +59,7 @@ module _ (s old : List ℕ) {n k : ℕ} (h : outcomeOf s (length old) ≡ Listed
     unfolding foundOf
     inside = subst (λ (m : ℕ). i < m) (listed-intervals s (length old) h) below
 
-    sized : Bytes s → Sized (intervalOf (windowOf s) one)
+    sized : Bytes s → Sized (intervalOf (sightsIn s) (windowOf s) one)
     unfolding intervalOf windowOf
     sized b =
         let w = windowOf s in
@@ -67,21 +68,21 @@ module _ (s old : List ℕ) {n k : ℕ} (h : outcomeOf s (length old) ≡ Listed
         let at = in-order-at (w .t0) (w .t1) l i (list-in-order w good (answersIn s)) inside in
         record {
           job-fits = read-lt 4 s 0 (omega arith) b;
-          flags-fits = omega (arith, flags-most w one);
+          flags-fits = omega (arith, flags-most (sightsIn s) w one);
           first-fits = omega (arith, at .1, at .2, good .end);
           last-fits = omega (arith, at .2, good .end);
         }
 
     -- record i has the bytes of interval i
-    pub record-bytes : take 24 (drop (24 * i) (listAfter s old)) ≡ recordBytes (intervalOf (windowOf s) one)
+    pub record-bytes : take 24 (drop (24 * i) (listAfter s old)) ≡ recordBytes (intervalOf (sightsIn s) (windowOf s) one)
     record-bytes =
         let rest = drop (24 * n) old in
         let enough : 24 ≤ length (drop (24 * i) bytes) = rw (length-drop, counts) (omega arith) in
         ap (λ (x : List ℕ). take 24 (drop (24 * i) x)) records-then-rest
         ∙ ap (take 24) (drop-append-le (24 * i) bytes rest (omega (arith, counts)))
         ∙ take-append-le 24 (drop (24 * i) bytes) rest enough
-        ∙ record-at (windowOf s) l i inside
+        ∙ record-at (sightsIn s) (windowOf s) l i inside
 
     -- so it reads as that interval
-    pub record-is : Bytes s → parsedOf (take 24 (drop (24 * i) (listAfter s old))) ≡ Record (intervalOf (windowOf s) one)
-    record-is b = ap parsedOf record-bytes ∙ parsed (intervalOf (windowOf s) one) (sized b)
+    pub record-is : Bytes s → parsedOf (take 24 (drop (24 * i) (listAfter s old))) ≡ Record (intervalOf (sightsIn s) (windowOf s) one)
+    record-is b = ap parsedOf record-bytes ∙ parsed (intervalOf (sightsIn s) (windowOf s) one) (sized b)

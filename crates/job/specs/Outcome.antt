@@ -1,4 +1,4 @@
--- What a job answers, and what its list holds afterwards (document 01, "Turned away" and "The list").
+-- What a job answers, and what its list holds afterwards (document 01, "Turned away" and "The list"; document 02, wish 1).
 use Prim.Native.Nat.{ℕ}
 use mathlib.Core.Bool.{Bool}
 use mathlib.Core.List.{List, []}
@@ -9,7 +9,9 @@ use Rattle.refusal.specs.declared.Verdict.{Verdict}
 use Rattle.refusal.specs.declared.Verdict.the-variants as verdict
 use Rattle.elements.specs.declared.reading.Elements.{Elements}
 use Rattle.elements.specs.Reading.{elementsOf}
+use Rattle.geometry.specs.declared.Sight.{Sight}
 use Rattle.geometry.specs.Visible.{answerAt}
+use Rattle.geometry.specs.Sight.{sightAt}
 use Rattle.finder.specs.declared.Window.{Window}
 use Rattle.finder.specs.Spans.{listOf}
 use Rattle.finder.specs.Records.{recordsOf, foundOf}
@@ -37,9 +39,9 @@ outcomeFrom verdict.Passed f w = Listed (foundOf f w .intervals) (foundOf f w .a
 outcomeFrom (verdict.Refused r) f w = Refused r
 
 -- on success the bytes of the interval records, and none for a refusal
-unfoldable pub recordsFrom : Verdict → (ℕ → Bool) → Window → List ℕ
-recordsFrom verdict.Passed f w = recordsOf w (listOf f w)
-recordsFrom (verdict.Refused r) f w = []
+unfoldable pub recordsFrom : Verdict → (ℕ → Bool) → (ℕ → Sight) → Window → List ℕ
+recordsFrom verdict.Passed f g w = recordsOf g w (listOf f w)
+recordsFrom (verdict.Refused r) f g w = []
 
 -- ---- by the record
 
@@ -47,16 +49,24 @@ recordsFrom (verdict.Refused r) f w = []
 abbrev pub answersOf : Elements → ℕ → ℕ → Bool
 answersOf e q = answerAt (orbitWith e) q
 
+-- and what tells why (document 02, wish 1)
+abbrev pub sightsOf : Elements → ℕ → ℕ → Sight
+sightsOf e q = sightAt (orbitWith e) q
+
 -- the outcome by the first of some rows that applies, and the bytes of its records
 abbrev pub outcomeBy : List Verdict → Elements → ℕ → Window → Outcome
 outcomeBy rows e q w = outcomeFrom (first rows) (answersOf e q) w
 
 abbrev pub recordsBy : List Verdict → Elements → ℕ → Window → List ℕ
-recordsBy rows e q w = recordsFrom (first rows) (answersOf e q) w
+recordsBy rows e q w = recordsFrom (first rows) (answersOf e q) (sightsOf e q) w
 
 -- the yes or no to the record's own question about its own elements
 abbrev pub answersIn : List ℕ → ℕ → Bool
 answersIn s = answersOf (elementsOf s) (questionOf s)
+
+-- and what tells why
+abbrev pub sightsIn : List ℕ → ℕ → Sight
+sightsIn s = sightsOf (elementsOf s) (questionOf s)
 
 -- the outcome, with room for so many bytes
 unfoldable pub outcomeOf : List ℕ → ℕ → Outcome

@@ -10,7 +10,7 @@ use Rattle.geometry.specs.Prepared.{orbitOf}
 use Rattle.geometry.specs.Ready.{Ready}
 use Rattle.geometry.proofs.Bounds.{prepared}
 use Rattle.job.specs.Table.{orbitWith, rowsFromSearch}
-use Rattle.job.specs.Outcome.{answersOf}
+use Rattle.job.specs.Outcome.{answersOf, sightsOf}
 use Rattle.job.proofs.Cases.{refused, listed}
 use borrow.Author.Needs.{needs}
 use Rattle.job.proofs.from_search.Statement.{statement}
@@ -54,7 +54,7 @@ returns : tie.Need-returns
 returns c =
     let p = c .before .before .before in
     let a = p .before .before .before .before .before .args in
-    refused (answersOf (a .e) (a .question)) (a .w) (a .list .now) _ _ (kepler-is (c .before) ∙ ap (λ (t : Bool). when t Kepler) (c .if1 .taken))
+    refused (answersOf (a .e) (a .question)) (sightsOf (a .e) (a .question)) (a .w) (a .list .now) _ _ (kepler-is (c .before) ∙ ap (λ (t : Bool). when t Kepler) (c .if1 .taken))
 
 slice-aggregate-list : tie.Need-slice-aggregate-list
 slice-aggregate-list c = search needs
@@ -74,7 +74,7 @@ returns-2 c =
     let k = done .before .before .before .before in
     let p = k .before .before in
     let a = p .before .before .before .before .before .args in
-    listed (answersOf (a .e) (a .question)) (a .w) (a .list .now) _ _ _ (kepler-is k ∙ ap (λ (t : Bool). when t Kepler) (done .before .before .before .if1 .left)) (rw (← orbit-is p) (done .list .ensures .0)) (rw (← orbit-is p) (done .list .ensures .1))
+    listed (answersOf (a .e) (a .question)) (sightsOf (a .e) (a .question)) (a .w) (a .list .now) _ _ _ (kepler-is k ∙ ap (λ (t : Bool). when t Kepler) (done .before .before .before .if1 .left)) (rw (← orbit-is p) (done .list .ensures .0)) (rw (← orbit-is p) (done .list .ensures .1))
 
 pub from-search-spec : {M : Type 1} → statement M
 from-search-spec =

@@ -2,7 +2,7 @@
 use mathlib.Core.Path.{sym, _∙_}
 use lib.ListN.{length}
 use Rattle.refusal.proofs.Order.{stops, goes}
-use Rattle.job.specs.Outcome.{answersOf}
+use Rattle.job.specs.Outcome.{answersOf, sightsOf}
 use Rattle.job.proofs.Laws.{before-passed}
 use Rattle.job.proofs.Cases.{refused, window-parts}
 use borrow.Author.Needs.{needs}
@@ -32,7 +32,7 @@ returns c =
     let a = m .before .before .before .args in
     let l = a .list .now in
     let parts = window-parts (a .e) (a .w) (a .question) (length l) in
-    refused (answersOf (a .e) (a .question)) (a .w) l _ _ (stops _ _ _ parts _ (sym (m .before .before-search .ensures) ∙ c .before .r .given .1))
+    refused (answersOf (a .e) (a .question)) (sightsOf (a .e) (a .question)) (a .w) l _ _ (stops _ _ _ parts _ (sym (m .before .before-search .ensures) ∙ c .before .r .given .1))
 
 same-length : tie.Need-same-length
 same-length c = search needs

@@ -1,5 +1,6 @@
 -- `finder::close` meets its contract: by the answer at the last sample.
 use Rattle.finder.proofs.Advanced.{last-room, last-yes, last-no}
+use native.Mathlib.Omega.{arith}
 use borrow.Author.Needs.{needs}
 use Rattle.finder.proofs.close.Statement.{statement}
 use Rattle.finder.proofs.close.Tie as tie
@@ -7,7 +8,7 @@ use Rattle.finder.proofs.close.Tie as tie
 put-requires : tie.Need-put-requires
 put-requires c κs =
     let start = c .before .before .before in
-    (last-room (start .args .w) (start .args .s) (start .args .out .now) (c .before .if1 .taken) (start .pre .0), start .pre .1)
+    (last-room (start .args .w) (start .args .s) (start .args .out .now) (c .before .if1 .taken) (start .pre .0), omega (arith, start .pre .1))
 
 add-t8 : tie.Need-add-t8
 add-t8 c = search needs

@@ -11,14 +11,14 @@ use Rattle.finder.specs.declared.Window.{Window}
 use Rattle.finder.specs.Spans.{Span}
 use Rattle.finder.specs.Flags.{differing, firstFlags, lastFlags, flagsOf, has, Says}
 
--- a number, or none
-cond-most : (x : Bool) (n : ℕ) → cond x 0 n ≤ n
-cond-most true n = omega arith
-cond-most false n = omega arith
+-- a bit is at most its value
+bit-most : (same : Bool) (value : ℕ) → cond same 0 value ≤ value
+bit-most true value = omega arith
+bit-most false value = omega arith
 
-pub differing-most : (h u : ℕ) (a b : Sight) → differing h u a b ≤ h + u
+differing-most : (h u : ℕ) (a b : Sight) → differing h u a b ≤ h + u
 unfolding differing
-differing-most h u a b = omega (arith, cond-most (Bool·beq (a .hidden) (b .hidden)) h, cond-most (Bool·beq (a .up) (b .up)) u)
+differing-most h u a b = omega (arith, bit-most (Bool·beq (a .hidden) (b .hidden)) h, bit-most (Bool·beq (a .up) (b .up)) u)
 
 pub bits-most : (n h u : ℕ) (a b : Sight) → n ≡ differing h u a b → n ≤ h + u
 bits-most n h u a b e = rw e (differing-most h u a b)

@@ -1,5 +1,6 @@
 // The list of a window's intervals: samples, and in each step whose ends differ a search by halving. `t` is the sine table, lent.
 ghost use mathlib.Core.Path.{_≡_};
+ghost use mathlib.Core.Bool.{cond};
 ghost use lib.ListN.{length};
 ghost use Rattle.geometry.specs.Ready.{Ready};
 ghost use Rattle.geometry.specs.Visible.{answerAt};
@@ -82,6 +83,13 @@ fn halve(t: &[u32], o: Orbit, question: u32, low: u64, high: u64, was: bool) -> 
     }
 }
 
+// A bit for an answer that may differ.
+fn bit(value: u32, same: bool) -> u32
+    ensures { λ r. ⌜ r ≡ cond same 0 value ⌝ }
+{
+    if same { 0 } else { value }
+}
+
 // Why the answer changes between neighbours, of which the low one answered `was`: 4 where hidden differs, 8 where up does.
 fn why(t: &[u32], o: Orbit, question: u32, e: Edge, was: bool) -> u32
     requires { ⌜ (Ready (now t) o) × (Turned (answerAt o question) e was) ⌝ }
@@ -89,11 +97,7 @@ fn why(t: &[u32], o: Orbit, question: u32, e: Edge, was: bool) -> u32
 {
     let low = geometry::sight_of(t, o, question, e.low, was);
     let high = geometry::sight_of(t, o, question, e.high, !was);
-    if low.hidden == high.hidden {
-        if low.up == high.up { 0 } else { 8 }
-    } else {
-        if low.up == high.up { 4 } else { 12 }
-    }
+    bit(4, low.hidden == high.hidden) + bit(8, low.up == high.up)
 }
 
 // Closes the open interval at `last`, with these flags for it: the record after the `count` that are there.

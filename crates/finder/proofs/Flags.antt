@@ -34,22 +34,19 @@ four-times a b = by (Bool·beq (a .hidden) (b .hidden)) (Bool·beq (a .up) (b .u
     by false true = refl
     by false false = refl
 
+-- one of two that are no greater
+most-of : (x : Bool) (a b most : ℕ) → a ≤ most → b ≤ most → cond x a b ≤ most
+most-of true a b most p q = p
+most-of false a b most p q = q
+
 module _ (g : ℕ → Sight) (w : Window) where
   pub first-most : (t : ℕ) → firstFlags g w t ≤ 12
   unfolding firstFlags
-  first-most t = by (eqb t (w .t0))
-    where
-      by : (x : Bool) → cond x 1 (differing 4 8 (g (t - 1)) (g t)) ≤ 12
-      by true = omega arith
-      by false = differing-most 4 8 (g (t - 1)) (g t)
+  first-most t = most-of (eqb t (w .t0)) 1 _ 12 (omega arith) (differing-most 4 8 _ _)
 
   last-most : (t : ℕ) → lastFlags g w t ≤ 48
   unfolding lastFlags
-  last-most t = by (eqb t (w .t1))
-    where
-      by : (x : Bool) → cond x 2 (differing 16 32 (g t) (g (t + 1))) ≤ 48
-      by true = omega arith
-      by false = differing-most 16 32 (g t) (g (t + 1))
+  last-most t = most-of (eqb t (w .t1)) 2 _ 48 (omega arith) (differing-most 16 32 _ _)
 
   pub flags-most : (s : Span) → flagsOf g w s ≤ 60
   unfolding flagsOf

@@ -16,7 +16,7 @@ use Rattle.finder.specs.Spans.{Span, span, edge, closedIn, ended}
 use Rattle.finder.specs.Asked.{middlesIn}
 use Rattle.finder.specs.Flags.{differing, firstFlags, lastFlags, flagsOf}
 use Rattle.finder.specs.Records.{intervalOf, recordsOf, written}
-use Rattle.finder.specs.State.{Stretch, Along, Turned, RoomFor, Flagged, closedOut, advanced, finished, finishedOut}
+use Rattle.finder.specs.State.{Along, Turned, RoomFor, Flagged, closedOut, advanced, finished, finishedOut}
 use Rattle.finder.proofs.OneStep.{beq-refl, beq-true, closed-same, first-same, closed-ends, first-ends, closed-begins, first-begins, middles-same, middles-differ}
 use Rattle.finder.proofs.Edged.{Edged, edged}
 use Rattle.finder.proofs.Flags.{bits-most, first-most, last-cut, first-behind, last-before}
@@ -34,25 +34,25 @@ record-is : (g : ℕ → Sight) (w : Window) (s : State) (last flags : ℕ) → 
 unfolding writeOf recordsOf intervalOf flagsOf
 record-is g w s last flags p q out = rw (p, q, append-nil)
 
-module _ (f : ℕ → Bool) (g : ℕ → Sight) (w : Window) (s : State) (b : ℕ) (along : Along g w s b) (stretch : Stretch f (s .at) b (s .was)) (yes′ : Bool) (at-b : yes′ ≡ f b) where
+module _ (f : ℕ → Bool) (g : ℕ → Sight) (w : Window) (s : State) (b : ℕ) (out : List ℕ) (along : Along f g w s b out) (yes′ : Bool) (at-b : yes′ ≡ f b) where
   abbrev at-a : s .was ≡ f (s .at)
-  at-a = stretch .answered
+  at-a = along .stretch .answered
 
   abbrev closes-here : List Span
   closes-here = closedIn f (s .first) (s .at) b
 
-  -- the state r and the bytes out′ are those after the step, where the bytes were `out`
-  abbrev Made : State → List ℕ → List ℕ → Type 0
-  Made r out out′ = (r ≡ advanced f g w s b) × (out′ ≡ written g w out (s .count) closes-here)
+  -- the state r and the bytes out′ are those after the step
+  abbrev Made : State → List ℕ → Type 0
+  Made r out′ = (r ≡ advanced f g w s b) × (out′ ≡ written g w out (s .count) closes-here)
 
   -- a step whose ends agree
   module _ (agree : Bool·beq yes′ (s .was) ≡ true) where
     same : f (s .at) ≡ f b
     same = sym at-a ∙ sym (beq-true yes′ (s .was) agree) ∙ at-b
 
-    pub stays : (out : List ℕ) → Made (record { at = b; was = yes′; first = s .first; begun = s .begun; count = s .count; asked = s .asked + 1 }) out out
+    pub stays : Made (record { at = b; was = yes′; first = s .first; begun = s .begun; count = s .count; asked = s .asked + 1 }) out
     unfolding advanced recordsOf
-    stays out =
+    stays =
         let none : s .count ≡ s .count + 0 = omega arith in
         rw (
           closed-same f (s .first) (s .at) b same,
@@ -72,7 +72,7 @@ module _ (f : ℕ → Bool) (g : ℕ → Sight) (w : Window) (s : State) (b : �
 
     -- the neighbours that were found
     sides : Edged f (s .at) b e
-    sides = rw found (edged f (s .at) b (stretch .from) (stretch .near) unlike)
+    sides = rw found (edged f (s .at) b (along .stretch .from) (along .stretch .near) unlike)
 
     pub turned : Turned f e (s .was)
     turned = record { low = at-a ∙ sym (sides .low); high = others .1 ∙ at-b ∙ sym (sides .high) ∙ ap f (sym (sides .next)) }
@@ -92,9 +92,9 @@ module _ (f : ℕ → Bool) (g : ℕ → Sight) (w : Window) (s : State) (b : �
         first-told : why ≡ firstFlags g w (e .high)
         first-told = told ∙ rw (sides .next) (sym (first-behind g w (e .low) (omega (arith, along .from, sides .from))))
 
-        pub begins : (out : List ℕ) → Made (record { at = b; was = yes′; first = e .high; begun = why; count = s .count; asked = s .asked + 1 + e .asked }) out out
+        pub begins : Made (record { at = b; was = yes′; first = e .high; begun = why; count = s .count; asked = s .asked + 1 + e .asked }) out
         unfolding advanced recordsOf
-        begins out =
+        begins =
             let none : s .count ≡ s .count + 0 = omega arith in
             rw
             (closed-begins f (s .first) (s .at) b from-no to-yes, first-begins f (s .first) (s .at) b from-no to-yes, ← found, ← counted, ← first-told)
@@ -114,13 +114,13 @@ module _ (f : ℕ → Bool) (g : ℕ → Sight) (w : Window) (s : State) (b : �
         closes : closes-here ≡ span (s .first) (e .low) ∷ []
         closes = closed-ends f (s .first) (s .at) b from-yes to-no ∙ ap (λ (x : Edge). span (s .first) (x .low) ∷ []) (sym found)
 
-        pub ends-room : (out : List ℕ) → RoomFor (s .count) (length closes-here) out → RoomFor (s .count) 1 out × Flagged s (4 * why)
-        ends-room out h = (rw closes at h, omega (arith, along .begun, first-most g w (s .first), bits-most _ 4 8 _ _ told))
+        pub ends-room : RoomFor (s .count) 1 out × Flagged s (4 * why)
+        ends-room = (rw closes at (along .room), omega (arith, along .begun, first-most g w (s .first), bits-most _ 4 8 _ _ told))
 
-        pub ends : (out out′ : List ℕ) → out′ ≡ closedOut w s (e .low) (4 * why) out
-            → Made (record { at = b; was = yes′; first = s .first; begun = s .begun; count = s .count + 1; asked = s .asked + 1 + e .asked }) out out′
+        pub ends : (out′ : List ℕ) → out′ ≡ closedOut w s (e .low) (4 * why) out
+            → Made (record { at = b; was = yes′; first = s .first; begun = s .begun; count = s .count + 1; asked = s .asked + 1 + e .asked }) out′
         unfolding advanced
-        ends out out′ h =
+        ends out′ h =
             rw (closes, first-ends f (s .first) (s .at) b from-yes to-no, ← counted, ← along .begun)
             (cc, h ∙ record-is g w s (e .low) (4 * why) (along .begun) last-told out)
 

@@ -1,34 +1,33 @@
 -- The flags of an interval, by cases on what differs: how great they are, what they are at either end, and each bit read back.
 use Prim.Native.Nat.{ℕ, _+_, _-_, _*_, _/_, _%_, _≤_, _<_}
-use mathlib.Core.Path.{_≡_, refl, ap, _∙_}
-use mathlib.Core.Bool.{Bool, true, false, cond, not, _&&_, Bool·beq}
+use mathlib.Core.Path.{_≡_, refl}
+use mathlib.Core.Bool.{Bool, true, false, cond, not, _&&_}
 use native.Mathlib.Omega.{arith}
-use native.Mathlib.Nat.{add-sub-cancel}
 use lib.Dec.{eqb}
 use borrow.Author.Tests.{eq-eqb, ne-eqb}
 use Rattle.geometry.specs.declared.Sight.{Sight}
 use Rattle.finder.specs.declared.Window.{Window}
 use Rattle.finder.specs.Spans.{Span}
-use Rattle.finder.specs.Flags.{differing, firstFlags, lastFlags, flagsOf, has, Says}
+use Rattle.finder.specs.Flags.{differ, differing, firstFlags, lastFlags, flagsOf, has, Says}
 
 -- a bit is at most its value
-bit-most : (same : Bool) (value : ℕ) → cond same 0 value ≤ value
+bit-most : (x : Bool) (value : ℕ) → cond x value 0 ≤ value
 bit-most true value = omega arith
 bit-most false value = omega arith
 
 differing-most : (h u : ℕ) (a b : Sight) → differing h u a b ≤ h + u
 unfolding differing
-differing-most h u a b = omega (arith, bit-most (Bool·beq (a .hidden) (b .hidden)) h, bit-most (Bool·beq (a .up) (b .up)) u)
+differing-most h u a b = omega (arith, bit-most (differ (a .hidden) (b .hidden)) h, bit-most (differ (a .up) (b .up)) u)
 
 pub bits-most : (n h u : ℕ) (a b : Sight) → n ≡ differing h u a b → n ≤ h + u
 bits-most n h u a b e = rw e (differing-most h u a b)
 
 -- the bits at a last are four times those at a first
-pub four-times : (a b : Sight) → differing 16 32 a b ≡ 4 * differing 4 8 a b
+four-times : (a b : Sight) → differing 16 32 a b ≡ 4 * differing 4 8 a b
 unfolding differing
-four-times a b = by (Bool·beq (a .hidden) (b .hidden)) (Bool·beq (a .up) (b .up))
+four-times a b = by (differ (a .hidden) (b .hidden)) (differ (a .up) (b .up))
   where
-    by : (x y : Bool) → cond x 0 16 + cond y 0 32 ≡ 4 * (cond x 0 4 + cond y 0 8)
+    by : (x y : Bool) → cond x 16 0 + cond y 32 0 ≡ 4 * (cond x 4 0 + cond y 8 0)
     by true true = refl
     by true false = refl
     by false true = refl
@@ -92,21 +91,13 @@ unfolding has
 bit-set bit n true e = rw e
 bit-set bit n false e = rw e
 
--- those at a first
-first-bits : (x h u : Bool) → cond x 1 (cond h 0 4 + cond u 0 8) ≡ one x + 4 * one (not x && not h) + 8 * one (not x && not u)
-first-bits true h u = refl
-first-bits false true true = refl
-first-bits false true false = refl
-first-bits false false true = refl
-first-bits false false false = refl
-
--- those at a last
-last-bits : (x h u : Bool) → cond x 2 (cond h 0 16 + cond u 0 32) ≡ 2 * one x + 16 * one (not x && not h) + 32 * one (not x && not u)
-last-bits true h u = refl
-last-bits false true true = refl
-last-bits false true false = refl
-last-bits false false true = refl
-last-bits false false false = refl
+-- those at one end: c where the window cuts it, else h and u
+end-bits : (c h u : ℕ) (x a b : Bool) → cond x c (cond a h 0 + cond b u 0) ≡ c * one x + h * one (not x && a) + u * one (not x && b)
+end-bits c h u true a b = omega arith
+end-bits c h u false true true = omega arith
+end-bits c h u false true false = omega arith
+end-bits c h u false false true = omega arith
+end-bits c h u false false false = omega arith
 
 -- n is made of them
 module _ (a b c d e f : Bool) (n : ℕ) (is : n ≡ bitsOf a b c d e f) where
@@ -129,11 +120,19 @@ pub flags-say : (g : ℕ → Sight) (w : Window) (s : Span) → Says g w s (flag
 unfolding flagsOf firstFlags lastFlags differing
 flags-say g w s =
     let x = eqb (s .first) (w .t0) in
-    let h = Bool·beq (g (s .first - 1) .hidden) (g (s .first) .hidden) in
-    let u = Bool·beq (g (s .first - 1) .up) (g (s .first) .up) in
+    let h = differ (g (s .first - 1) .hidden) (g (s .first) .hidden) in
+    let u = differ (g (s .first - 1) .up) (g (s .first) .up) in
     let y = eqb (s .last) (w .t1) in
-    let k = Bool·beq (g (s .last) .hidden) (g (s .last + 1) .hidden) in
-    let v = Bool·beq (g (s .last) .up) (g (s .last + 1) .up) in
-    let sum : flagsOf g w s ≡ bitsOf x y (not x && not h) (not x && not u) (not y && not k) (not y && not v) = omega (arith, first-bits x h u, last-bits y k v) in
-    let back = bits-back x y (not x && not h) (not x && not u) (not y && not k) (not y && not v) (flagsOf g w s) sum in
-    record { from-start = back .0; to-end = back .1; first-hidden = back .2; first-up = back .3; last-hidden = back .4; last-up = back .5 }
+    let k = differ (g (s .last) .hidden) (g (s .last + 1) .hidden) in
+    let v = differ (g (s .last) .up) (g (s .last + 1) .up) in
+    let sum : flagsOf g w s ≡ bitsOf x y (not x && h) (not x && u) (not y && k) (not y && v) = omega (arith, end-bits 1 4 8 x h u, end-bits 2 16 32 y k v) in
+    let back = bits-back x y (not x && h) (not x && u) (not y && k) (not y && v) (flagsOf g w s) sum in
+    record {
+      from-start = back .0;
+      to-end = back .1;
+      first-hidden = back .2;
+      first-up = back .3;
+      last-hidden = back .4;
+      last-up = back .5;
+      no-more = omega (arith, flags-most g w s);
+    }

@@ -59,7 +59,7 @@ module _ {f : ℕ → Bool} {g : ℕ → Sight} {w : Window} {out₀ : List ℕ}
       pub going-sampled : Sampled w (s .at)
       going-sampled = record { good = good; inside = going-inside }
 
-      pub going-stretch : (b : ℕ) → b ≡ next w (s .at) → Stretch f (s .at) b (s .was)
+      going-stretch : (b : ℕ) → b ≡ next w (s .at) → Stretch f (s .at) b (s .was)
       going-stretch b e =
           record {
             from = omega (arith, going-inside);
@@ -68,10 +68,7 @@ module _ {f : ℕ → Bool} {g : ℕ → Sight} {w : Window} {out₀ : List ℕ}
             answered = r .answered;
           }
 
-      pub going-along : (b : ℕ) → b ≡ next w (s .at) → Along g w s b
-      going-along b e = record { begun = r .begun; from = rw (r .here) (sample-from w good (r .i)); to = omega arith }
-
-      pub going-few : Few s
+      going-few : Few s
       going-few = omega (arith, r .asked, instants-few f w, steps-fit w good)
 
     -- where a step is left, to the sample b
@@ -128,12 +125,20 @@ module _ {f : ℕ → Bool} {g : ℕ → Sight} {w : Window} {out₀ : List ℕ}
 
     -- the same where the steps left are counted down
     module _ {left : ℕ} (r : Going f g w out₀ out s left) (more : 0 < left) where
-      pub going-room : HasRoom w out₀ → (b : ℕ) → b ≡ next w (s .at) → RoomFor (s .count) (length (closedIn f (s .first) (s .at) b)) out
-      going-room room b here = rw here (go left r more room)
+      pub going-along : HasRoom w out₀ → (b : ℕ) → b ≡ next w (s .at) → Along f g w s b out
+      going-along room b here =
+          record {
+            stretch = going-stretch r b here;
+            from = rw (r .here) (sample-from w good (r .i));
+            to = omega arith;
+            begun = r .begun;
+            few = going-few r;
+            room = rw here (go left r more);
+          }
         where
-          go : (n : ℕ) → Going f g w out₀ out s n → 0 < n → HasRoom w out₀ → RoomFor (s .count) (length (closedIn f (s .first) (s .at) (next w (s .at)))) out
+          go : (n : ℕ) → Going f g w out₀ out s n → 0 < n → RoomFor (s .count) (length (closedIn f (s .first) (s .at) (next w (s .at)))) out
           go zero r more = absurd (omega arith)
-          go (suc k) r more = step-room r
+          go (suc k) r more = step-room r room
 
       pub going-on : (out′ : List ℕ) (s′ : State) (b : ℕ) → b ≡ next w (s .at) → s′ ≡ advanced f g w s b → out′ ≡ written g w out (s .count) (closedIn f (s .first) (s .at) b) → Going f g w out₀ out′ s′ (left - 1)
       going-on out′ s′ b here p q = rw (p, here) (go left r more (rw here at q))

@@ -2,13 +2,12 @@
 use Prim.Native.Nat.{ℕ, _+_, _-_, _≤_}
 use mathlib.Core.Path.{_≡_, refl, sym, _∙_}
 use mathlib.Core.Logic.{inl, inr}
-use mathlib.Core.List.{List, [], _∷_, _++_}
+use mathlib.Core.List.{List, [], _∷_, _++_, List·Memᴰ·head as head, List·Memᴰ·tail as tail, Memᴰ·append-left, Memᴰ·append-right}
 use mathlib.Core.Bool.{Bool, true, false, true≢false}
 use native.Mathlib.Omega.{arith}
 use borrow.Author.Tests.{eq-eqb}
-use Rattle.halving.specs.Halving.{middlesOf, Among}
-use Rattle.halving.specs.Halving.Among.{here, later}
-use Rattle.halving.proofs.Among.{Met, ends-met, among-left, among-right}
+use Rattle.halving.specs.Halving.{Alike, Among}
+use Rattle.halving.proofs.Among.{alike-at, Met, ends-met}
 use Rattle.geometry.specs.declared.Sight.{Sight}
 use Rattle.finder.specs.declared.Window.{Window}
 use Rattle.finder.specs.Samples.{longestStep, Good, samples}
@@ -19,7 +18,7 @@ use Rattle.finder.specs.Records.{intervalOf, recordsOf}
 use Rattle.finder.specs.Fits.{Rising, Short, lastOf}
 use Rattle.finder.proofs.Samples.{samples-rise, samples-short, samples-end}
 use Rattle.finder.proofs.OneStep.{closed-same, first-same, closed-ends, first-ends, closed-begins, first-begins}
-use Rattle.finder.proofs.Edged.{Edged, edged}
+use Rattle.finder.proofs.Edged.{edged}
 
 -- ---- one step
 
@@ -39,14 +38,14 @@ module _ (f : ℕ → Bool) (w : Window) (asked : List ℕ) where
   module _ (a b : ℕ) (ts : List ℕ) (held : Held a (b ∷ ts)) where
     held-on : Held b ts
     unfolding askedAfter
-    held-on t (here e) = held t (later (here e))
-    held-on t (later h) = held t (later (later (among-right (middlesIn f a b) (askedAfter f b ts) h)))
+    held-on t (head e) = held t (tail (head e))
+    held-on t (tail h) = held t (tail (tail (Memᴰ·append-right (middlesIn f a b) h)))
 
     held-step : (t : ℕ) → Among t (a ∷ b ∷ middlesIn f a b) → Among t asked
     unfolding askedAfter
-    held-step t (here e) = held t (here e)
-    held-step t (later (here e)) = held t (later (here e))
-    held-step t (later (later h)) = held t (later (later (among-left (middlesIn f a b) (askedAfter f b ts) h)))
+    held-step t (head e) = held t (head e)
+    held-step t (tail (head e)) = held t (tail (head e))
+    held-step t (tail (tail h)) = held t (tail (tail (Memᴰ·append-left (askedAfter f b ts) h)))
 
     -- both neighbours of a step whose ends differ
     edge-asked : sameAs f a b ≡ false → Met (edge f a b) asked
@@ -73,7 +72,7 @@ module _ (f : ℕ → Bool) (w : Window) (asked : List ℕ) where
       let back : edge f a b .high - 1 ≡ edge f a b .low = omega (arith, k .next) in
       rw (closed-begins f first a b p q, first-begins f first a b p q) (rest (edge f a b .high) (inr (rw back (m .0), m .1)))
 
-  pub walk-asked : (first a : ℕ) (ts : List ℕ) → Rising a ts → Short a ts → lastOf a ts ≡ w .t1 → Held a ts → FirstAsked w asked first → EndsAsked w asked (walk f first a ts)
+  walk-asked : (first a : ℕ) (ts : List ℕ) → Rising a ts → Short a ts → lastOf a ts ≡ w .t1 → Held a ts → FirstAsked w asked first → EndsAsked w asked (walk f first a ts)
   unfolding walk lastOf
   walk-asked first a [] h n e held begun = last-asked first a (f a) e begun
   walk-asked first a (b ∷ ts) h n e held begun =
@@ -86,16 +85,16 @@ list-asked w good f =
 
 -- ---- the records
 
-module _ (g h : ℕ → Sight) (w : Window) (asked : List ℕ) (alike : (t : ℕ) → Among t asked → h t ≡ g t) where
+module _ (g h : ℕ → Sight) (w : Window) (asked : List ℕ) (alike : Alike g h asked) where
   first-alike : (t : ℕ) → FirstAsked w asked t → firstFlags h w t ≡ firstFlags g w t
   unfolding firstFlags
   first-alike t (inl e) = rw (eq-eqb t (w .t0) e)
-  first-alike t (inr m) = rw (alike (t - 1) (m .0), alike t (m .1))
+  first-alike t (inr m) = rw (alike-at g h (m .0) alike, alike-at g h (m .1) alike)
 
   last-alike : (t : ℕ) → LastAsked w asked t → lastFlags h w t ≡ lastFlags g w t
   unfolding lastFlags
   last-alike t (inl e) = rw (eq-eqb t (w .t1) e)
-  last-alike t (inr m) = rw (alike t (m .0), alike (t + 1) (m .1))
+  last-alike t (inr m) = rw (alike-at g h (m .0) alike, alike-at g h (m .1) alike)
 
   pub records-alike : (l : List Span) → EndsAsked w asked l → recordsOf h w l ≡ recordsOf g w l
   unfolding recordsOf intervalOf flagsOf

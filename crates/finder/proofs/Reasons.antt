@@ -2,30 +2,26 @@
 use Prim.Native.Nat.{ℕ, suc, _+_, _-_, _<_}
 use mathlib.Core.Path.{_≡_, refl, sym, ap, _∙_}
 use mathlib.Core.Logic.{_≢_, _⊎_, inl, inr}
-use mathlib.Core.Bool.{Bool, true, false, not, _&&_, _||_, Bool·beq, true≢false}
+use mathlib.Core.Bool.{Bool, true, false, not, _||_, Bool·beq, true≢false}
 use native.Mathlib.Omega.{arith}
 use borrow.Author.Tests.{ne-eqb}
 use lib.ListN.{length, getD}
 use Rattle.geometry.specs.declared.Sight.{Sight}
-use Rattle.geometry.specs.Sight.{answerBy}
 use Rattle.finder.specs.declared.Window.{Window}
 use Rattle.finder.specs.Samples.{Good, stepsOf, sampleAt}
 use Rattle.finder.specs.Spans.{Span, span, listOf}
-use Rattle.finder.specs.Flags.{flagsOf, has, differ, Why, Tells}
+use Rattle.finder.specs.Flags.{differ, flagsOf, has, Why}
 use Rattle.finder.specs.Fits.{Changes}
 use Rattle.finder.proofs.OneStep.{beq-true}
 use Rattle.finder.proofs.Edged.{beq-differ}
 use Rattle.finder.proofs.Flags.{flags-say}
 use Rattle.finder.proofs.Listed.{list-first, list-last}
 
--- answers that differ are not made of the same
-one-differs : (h u k v : Bool) → (u && not h) ≢ (v && not k) → (differ h k || differ u v) ≡ true
-one-differs h u k v d = by (Bool·beq h k) (Bool·beq u v) refl refl
-  where
-    by : (x y : Bool) → Bool·beq h k ≡ x → Bool·beq u v ≡ y → (not x || not y) ≡ true
-    by true true p q = absurd (d (rw (beq-true h k p, beq-true u v q)))
-    by true false p q = refl
-    by false y p q = refl
+-- how g tells of the answers f to a question: where it tells the same they are the same; to question 1 hidden is the answer, and no up is told
+pub record Tells (question : ℕ) (f : ℕ → Bool) (g : ℕ → Sight) : Type 0 where
+  pub same : (a b : ℕ) → g a .hidden ≡ g b .hidden → g a .up ≡ g b .up → f a ≡ f b
+  pub hidden : question ≡ 1 → (t : ℕ) → f t ≡ g t .hidden
+  pub no-up : question ≡ 1 → (t : ℕ) → g t .up ≡ false
 
 -- the instant before
 back : {t e : ℕ} → t ≡ e + 1 → t - 1 ≡ e
@@ -33,20 +29,22 @@ back p = omega arith
 
 module _ (question : ℕ) (f : ℕ → Bool) (g : ℕ → Sight) (tells : Tells question f g) where
   -- between two instants whose answers differ
-  why-between : (a b : ℕ) → f a ≢ f b → Why question (differ (g a .hidden) (g b .hidden)) (differ (g a .up) (g b .up))
-  unfolding answerBy
-  why-between a b d = (hidden-only, one-at-least)
-    where
-      told : answerBy question (g a) ≢ answerBy question (g b)
-      told e = d (tells .answer a ∙ e ∙ sym (tells .answer b))
+  module _ (a b : ℕ) (d : f a ≢ f b) where
+    one-differs : (differ (g a .hidden) (g b .hidden) || differ (g a .up) (g b .up)) ≡ true
+    one-differs = by (Bool·beq (g a .hidden) (g b .hidden)) (Bool·beq (g a .up) (g b .up)) refl refl
+      where
+        by : (x y : Bool) → Bool·beq (g a .hidden) (g b .hidden) ≡ x → Bool·beq (g a .up) (g b .up) ≡ y → (not x || not y) ≡ true
+        by true true p q = absurd (d (tells .same a b (beq-true _ _ p) (beq-true _ _ q)))
+        by true false p q = refl
+        by false y p q = refl
 
-      hidden-only : question ≡ 1 → (differ (g a .hidden) (g b .hidden) ≡ true) × (differ (g a .up) (g b .up) ≡ false)
-      hidden-only q =
-          let hidden : g b .hidden ≢ g a .hidden = λ e. told (rw q (sym e)) in
-          (ap not (beq-differ (g b .hidden) (g a .hidden) hidden), rw (tells .no-up q a, tells .no-up q b))
+    hidden-only : question ≡ 1 → (differ (g a .hidden) (g b .hidden) ≡ true) × (differ (g a .up) (g b .up) ≡ false)
+    hidden-only q =
+        let unlike : g b .hidden ≢ g a .hidden = λ e. d (tells .hidden q a ∙ sym e ∙ sym (tells .hidden q b)) in
+        (ap not (beq-differ (g b .hidden) (g a .hidden) unlike), rw (tells .no-up q a, tells .no-up q b))
 
-      one-at-least : question ≡ 2 → (differ (g a .hidden) (g b .hidden) || differ (g a .up) (g b .up)) ≡ true
-      one-at-least q = one-differs (g a .hidden) (g a .up) (g b .hidden) (g b .up) (λ e. told (rw q e))
+    why-between : Why question (differ (g a .hidden) (g b .hidden)) (differ (g a .up) (g b .up))
+    why-between = (one-differs, hidden-only)
 
   module _ (w : Window) (good : Good w) (j : ℕ) (below : j < length (listOf f w)) where
     abbrev one : Span

@@ -40,6 +40,6 @@ FirstAsked w asked first = (first ≡ w .t0) ⊎ (Among (first - 1) asked × Amo
 abbrev pub LastAsked : Window → List ℕ → ℕ → Type 0
 LastAsked w asked last = (last ≡ w .t1) ⊎ (Among last asked × Among (last + 1) asked)
 
--- so each interval begins and ends
+-- both ends of each interval
 abbrev pub EndsAsked : Window → List ℕ → List Span → Type 0
 EndsAsked w asked = Each (λ s. FirstAsked w asked (s .first) × LastAsked w asked (s .last))

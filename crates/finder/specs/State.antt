@@ -32,12 +32,6 @@ pub record Stretch (f : ℕ → Bool) (low high : ℕ) (was : Bool) : Type 0 whe
   pub early : high ≤ lastEnd
   pub answered : was ≡ f low
 
--- the flags of the open interval's first are found, and the step to b lies in the window
-pub record Along (g : ℕ → Sight) (w : Window) (s : State) (b : ℕ) : Type 0 where
-  pub begun : s .begun ≡ firstFlags g w (s .first)
-  pub from : w .t0 ≤ s .at
-  pub to : b ≤ w .t1
-
 -- neighbours of which the low one answered `was` and the high one the other way
 pub record Turned (f : ℕ → Bool) (e : Edge) (was : Bool) : Type 0 where
   pub low : was ≡ f (e .low)
@@ -50,6 +44,15 @@ Few s = s .asked < 1099511627776
 -- room for n records behind `count` records
 abbrev pub RoomFor : ℕ → ℕ → List ℕ → Type 0
 RoomFor count n out = 24 * (count + n) ≤ length out
+
+-- what one step supposes, to the sample b of the window, with room for what it closes: the flags of the open interval's first are found
+pub record Along (f : ℕ → Bool) (g : ℕ → Sight) (w : Window) (s : State) (b : ℕ) (out : List ℕ) : Type 0 where
+  pub stretch : Stretch f (s .at) b (s .was)
+  pub from : w .t0 ≤ s .at
+  pub to : b ≤ w .t1
+  pub begun : s .begun ≡ firstFlags g w (s .first)
+  pub few : Few s
+  pub room : RoomFor (s .count) (length (closedIn f (s .first) (s .at) b)) out
 
 -- flags of an interval that begins as the open one does: below 256, where a closing record's begin
 abbrev pub Flagged : State → ℕ → Type 0

@@ -9,7 +9,7 @@ ghost use Rattle.finder.specs.Samples.{Good, stepsOf};
 ghost use Rattle.finder.specs.Spans.{edge, closedIn, ended, listOf};
 ghost use Rattle.finder.specs.Flags.{differing};
 ghost use Rattle.finder.specs.Records.{written, foundOf, HasRoom};
-ghost use Rattle.finder.specs.State.{Sampled, next, Stretch, Along, Turned, Few, RoomFor, Flagged, closedOut, advanced, finished, finishedOut};
+ghost use Rattle.finder.specs.State.{Sampled, next, Stretch, Along, Turned, RoomFor, Flagged, closedOut, advanced, finished, finishedOut};
 use geometry::Orbit;
 use halving::Edge;
 use interval::Interval;
@@ -83,11 +83,11 @@ fn halve(t: &[u32], o: Orbit, question: u32, low: u64, high: u64, was: bool) -> 
     }
 }
 
-// A bit for an answer that may differ.
-fn bit(value: u32, same: bool) -> u32
-    ensures { λ r. ⌜ r ≡ cond same 0 value ⌝ }
+// A bit, where an answer differs.
+fn bit(value: u32, differs: bool) -> u32
+    ensures { λ r. ⌜ r ≡ cond differs value 0 ⌝ }
 {
-    if same { 0 } else { value }
+    if differs { value } else { 0 }
 }
 
 // Why the answer changes between neighbours, of which the low one answered `was`: 4 where hidden differs, 8 where up does.
@@ -97,7 +97,7 @@ fn why(t: &[u32], o: Orbit, question: u32, e: Edge, was: bool) -> u32
 {
     let low = geometry::sight_of(t, o, question, e.low, was);
     let high = geometry::sight_of(t, o, question, e.high, !was);
-    bit(4, low.hidden == high.hidden) + bit(8, low.up == high.up)
+    bit(4, low.hidden != high.hidden) + bit(8, low.up != high.up)
 }
 
 // Closes the open interval at `last`, with these flags for it: the record after the `count` that are there.
@@ -117,8 +117,7 @@ fn put(w: Window, out: &mut [u8], s: State, last: u64, flags: u32)
 // One step, to the sample b. From no to yes: the high neighbour is a first. From yes to no: the low one is a last. The flags of a last are
 // four times those of a first.
 fn advance(t: &[u32], o: Orbit, question: u32, w: Window, out: &mut [u8], s: State, b: u64) -> State
-    requires { ⌜ (Ready (now t) o) × (Stretch (answerAt o question) (s .at) b (s .was)) × (Along (sightAt o question) w s b) × (Few s) ⌝ }
-    requires { ⌜ RoomFor (s .count) (length (closedIn (answerAt o question) (s .first) (s .at) b)) (now out) ⌝ }
+    requires { ⌜ (Ready (now t) o) × (Along (answerAt o question) (sightAt o question) w s b (now out)) ⌝ }
     ensures { λ r. ⌜ r ≡ advanced (answerAt o question) (sightAt o question) w s b ⌝ }
     ensures { λ _. ⌜ now (out .exit) ≡ written (sightAt o question) w (now (out .entry)) (s .count) (closedIn (answerAt o question) (s .first) (s .at) b) ⌝ }
 {
@@ -134,6 +133,7 @@ fn advance(t: &[u32], o: Orbit, question: u32, w: Window, out: &mut [u8], s: Sta
         };
     }
     let e = halve(t, o, question, s.at, b, s.was);
+    let asked = s.asked + 1 + e.asked;
     let flags = why(t, o, question, e, s.was);
     if yes {
         return State {
@@ -142,7 +142,7 @@ fn advance(t: &[u32], o: Orbit, question: u32, w: Window, out: &mut [u8], s: Sta
             first: e.high,
             begun: flags,
             count: s.count,
-            asked: s.asked + 1 + e.asked,
+            asked,
         };
     }
     put(w, out, s, e.low, 4 * flags);
@@ -152,7 +152,7 @@ fn advance(t: &[u32], o: Orbit, question: u32, w: Window, out: &mut [u8], s: Sta
         first: s.first,
         begun: s.begun,
         count: s.count + 1,
-        asked: s.asked + 1 + e.asked,
+        asked,
     }
 }
 

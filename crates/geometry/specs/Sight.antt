@@ -1,6 +1,6 @@
 -- What tells why an interval begins or ends: the hidden answer and the up answer at one instant (document 02, wish 1).
 use mathlib.Core.Path.{_≡_}
-use mathlib.Core.Bool.{Bool, false, _&&_, not, cond}
+use mathlib.Core.Bool.{Bool, false, cond}
 use Prim.Native.Nat.{ℕ}
 use lib.Dec.{eqb}
 use Rattle.geometry.specs.declared.Orbit.{Orbit}
@@ -12,10 +12,6 @@ use Rattle.geometry.specs.Visible.{upAt, answerAt}
 unfoldable pub sightAt : Orbit → ℕ → ℕ → Sight
 sightAt o question t = record { hidden = hiddenAt o t; up = cond (eqb question 1) false (upAt o t) }
 
--- the yes or no that goes with it: hidden for question 1, and else up and not hidden
-unfoldable pub answerBy : ℕ → Sight → Bool
-answerBy question s = cond (eqb question 1) (s .hidden) (s .up && not (s .hidden))
-
--- t was asked already and answered `told`
+-- `told` is the answer at t
 abbrev pub Answered : Orbit → ℕ → ℕ → Bool → Type 0
 Answered o question t told = told ≡ answerAt o question t

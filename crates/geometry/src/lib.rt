@@ -1,4 +1,4 @@
-// The answer at one instant, from whole numbers to yes or no. `t` is the sine table, lent.
+// The answer at one instant, from whole numbers to yes or no, and what tells why. `t` is the sine table, lent.
 ghost use mathlib.Core.Path.{_≡_};
 ghost use Rattle.fixed.specs.Within.{Within};
 ghost use Rattle.sine.specs.Sine.{sines};
@@ -49,7 +49,7 @@ pub struct Place {
     pub y: i64,
 }
 
-// What tells why at an instant: whether the planet hides the far body, and whether it is up.
+// What tells why at an instant: whether the planet hides the far body, and whether the planet is up.
 pub struct Sight {
     pub hidden: bool,
     pub up: bool,
@@ -258,8 +258,8 @@ pub fn answer(t: &[u32], o: Orbit, question: u32, at: u64) -> bool
     }
 }
 
-// What tells why at an instant that answered `told`. That answer holds most of it: hidden is asked only of a planet that is down, where `answer`
-// did not ask it.
+// What tells why at an instant that answered `told`. Most of it is known from that answer: of a no to question 2 up is worked out again, and hidden
+// only where the planet is down, where `answer` did not ask it.
 pub fn sight_of(t: &[u32], o: Orbit, question: u32, at: u64, told: bool) -> Sight
     requires { ⌜ (Ready (now t) o) × (Answered o question at told) ⌝ }
     ensures { λ r. ⌜ r ≡ sightAt o question at ⌝ }

@@ -2,7 +2,7 @@
 use Prim.Native.Nat.{ℕ, zero, suc, _+_, _/_}
 use mathlib.Core.Path.{_≡_}
 use mathlib.Core.Bool.{Bool, cond}
-use mathlib.Core.List.{List, [], _∷_}
+use mathlib.Core.List.{List, [], _∷_, List·Memᴰ}
 use lib.Dec.{ltb}
 use Rattle.halving.specs.declared.Edge.{Edge}
 
@@ -27,12 +27,11 @@ middlesOf moves (suc k) low high =
     let next = middlesOf moves k (cond (moves m) m low) (cond (moves m) high m) in
     cond (ltb (low + 1) high) (m ∷ next) []
 
--- g answers as f at each of these points: for the law that a search is made of the answers at its middles
-abbrev pub Alike : (ℕ → Bool) → (ℕ → Bool) → List ℕ → Type 0
+-- g tells the same as f at each of these points: for the law that a search is made of the answers at its middles
+abbrev pub Alike : {A : Type 0} → (ℕ → A) → (ℕ → A) → List ℕ → Type 0
 Alike f g [] = Unit {0}
 Alike f g (t ∷ ts) = (g t ≡ f t) × Alike f g ts
 
 -- t is one of these points: for the law that a search ends at points that it was given or asked
-pub data Among (t : ℕ) : List ℕ → Type 0 where
-  here : {x : ℕ} {xs : List ℕ} → t ≡ x → Among t (x ∷ xs)
-  later : {x : ℕ} {xs : List ℕ} → Among t xs → Among t (x ∷ xs)
+abbrev pub Among : ℕ → List ℕ → Type 0
+Among = List·Memᴰ

@@ -6,7 +6,8 @@
 --   stepsOf, sampleAt                                      finder/specs/Samples.antt       listOf                              finder/specs/Spans.antt
 --   instantsOf, changesOf                                  finder/specs/Asked.antt         recordsOf, intervalOf, roomForAny   finder/specs/Records.antt
 --   Fits, InOrder, listed, Changes                         finder/specs/Fits.antt          recordBytes, parsedOf               interval/specs/Record.antt
---   flagsOf, has, Says, Why                                finder/specs/Flags.antt         sightsIn                            job/specs/Outcome.antt
+--   has, Says, Why                                         finder/specs/Flags.antt         FirstAsked, LastAsked               finder/specs/Asked.antt
+--   Alike                                                  halving/specs/Halving.antt      sightsIn                            job/specs/Outcome.antt
 use Prim.Native.Nat.{ℕ, suc, _+_, _*_, _≤_, _<_}
 use mathlib.Core.Path.{_≡_, refl, sym, ap, subst, _∙_}
 use mathlib.Core.Logic.{_↔_, _⊎_, _≢_}
@@ -23,7 +24,7 @@ use lib.Ieee.{Float}
 use lib.Ieee.Positive.{positive}
 use lib.Ieee.Scale.{finite}
 use Rattle.words.specs.Little.{Bytes}
-use Rattle.halving.specs.Halving.{Alike, Among}
+use Rattle.halving.specs.Halving.{Alike}
 use Rattle.refusal.specs.Refusal.{numberOf, fieldOf, zero, valueOf, bitsOf, orderOf}
 use Rattle.refusal.specs.Rows.{rowAt, Gives, Passes}
 use Rattle.refusal.specs.declared.Refusal.{Refusal}
@@ -37,14 +38,14 @@ use Rattle.geometry.specs.Hidden.{hiddenAt}
 use Rattle.geometry.specs.Visible.{upAt, visibleAt, answerAt}
 use Rattle.geometry.specs.declared.Sight.{Sight}
 use Rattle.geometry.specs.Sight.{sightAt}
-use Rattle.geometry.proofs.Told.{answer-by, no-up}
+use Rattle.geometry.proofs.Told as told-by
 use Rattle.interval.specs.Record.{recordBytes, parsedOf}
 use Rattle.interval.specs.declared.Parsed.the-variants.{Record}
 use Rattle.finder.specs.declared.Window.{Window}
 use Rattle.finder.specs.Samples.{mostSteps, Good, stepsOf, sampleAt, samples}
 use Rattle.finder.specs.Spans.{Span, span, listOf}
 use Rattle.finder.specs.Asked.{instantsOf, changesOf, FirstAsked, LastAsked}
-use Rattle.finder.specs.Flags.{flagsOf, has, Says, Why, Tells}
+use Rattle.finder.specs.Flags.{has, Says, Why}
 use Rattle.finder.specs.Records.{intervalOf, recordsOf, foundOf, roomForAny}
 use Rattle.finder.specs.Fits.{Changes, Fits, InOrder, listed}
 use Rattle.finder.proofs.Samples.{sample-first, sample-end}
@@ -53,7 +54,7 @@ use Rattle.finder.proofs.Flags.{flags-say}
 use Rattle.finder.proofs.Listed.{each-at, list-fits, list-in-order, list-sample, list-step, still, list-first, list-last, list-opens, list-closes}
 use Rattle.finder.proofs.Asked.{list-alike}
 use Rattle.finder.proofs.Neighbours.{list-asked, records-alike}
-use Rattle.finder.proofs.Reasons.{first-why, last-why}
+use Rattle.finder.proofs.Reasons.{Tells, first-why, last-why}
 use Rattle.job.specs.Table.{windowOf, questionOf, orbitWith, tableOf}
 use Rattle.job.specs.Outcome.{intervalsOf, askedOf, answersIn, sightsIn, outcomeOf, listAfter}
 use Rattle.job.specs.declared.Outcome.{Outcome}
@@ -177,23 +178,28 @@ module _ (s old : List ℕ) (o : Outcome) (new : List ℕ) (job : Job s old o ne
   unfolding answerAt visibleAt
   asks-visible q t = rw q
 
-  -- what tells why an interval begins or ends is both at the same instant: hidden
+  -- what tells why has the hidden answer of the same instant
   pub tells-hidden : (t : ℕ) → g t .hidden ≡ hiddenAt (orbitWith (elementsOf s)) t
   unfolding sightAt
   tells-hidden t = refl
 
-  -- and up, for question 2
+  -- and the up answer, for question 2
   pub tells-up : questionOf s ≡ 2 → (t : ℕ) → g t .up ≡ upAt (orbitWith (elementsOf s)) t
   unfolding sightAt
   tells-up q t = rw q
 
-  -- question 1 uses only hidden: no up is told
+  -- question 1 uses only hidden: it tells no up
   pub tells-no-up : questionOf s ≡ 1 → (t : ℕ) → g t .up ≡ false
-  tells-no-up q t = no-up (orbitWith (elementsOf s)) (questionOf s) t q
+  tells-no-up q t = told-by.no-up (orbitWith (elementsOf s)) (questionOf s) t q
 
-  -- and so are the answers
+  -- for the proofs below: how g tells of f
   tells : Tells (questionOf s) f g
-  tells = record { answer = answer-by (orbitWith (elementsOf s)) (questionOf s); no-up = tells-no-up }
+  tells =
+      record {
+        same = told-by.same-answer (orbitWith (elementsOf s)) (questionOf s);
+        hidden = λ q t. told-by.asks-hidden (orbitWith (elementsOf s)) (questionOf s) t q;
+        no-up = tells-no-up;
+      }
 
   -- n intervals were listed, and k instants asked
   module _ {n k : ℕ} (h : o ≡ Listed n k) where
@@ -232,7 +238,7 @@ module _ (s old : List ℕ) (o : Outcome) (new : List ℕ) (job : Job s old o ne
     ends-asked i below = each-at _ l i (list-asked w (good job h) f) (subst (λ (m : ℕ). i < m) intervals-is below)
 
     -- so the records' flags are made of what is told at the instants asked, and no others
-    pub only-told : (g′ : ℕ → Sight) → ((t : ℕ) → Among t (instantsOf f w) → g′ t ≡ g t) → recordsOf g′ w l ≡ recordsOf g w l
+    pub only-told : (g′ : ℕ → Sight) → Alike g g′ (instantsOf f w) → recordsOf g′ w l ≡ recordsOf g w l
     only-told g′ alike = records-alike g g′ w (instantsOf f w) alike l (list-asked w (good job h) f)
 
     -- ---- 3. Whatever the answers are
@@ -279,12 +285,14 @@ module _ (s old : List ℕ) (o : Outcome) (new : List ℕ) (job : Job s old o ne
         (t ≡ w .t1) ⊎ ((i : ℕ) × (i < stepsOf w) × Changes f true false (sampleAt w i) (sampleAt w (suc i)) t)
     each-last j below = list-last w (good job h) f j (subst (λ (m : ℕ). j < m) intervals-is below)
 
-    -- and says why: 4 or 8 is set of a first above t0, to question 1 exactly 4
-    pub first-says-why : (i : ℕ) → i < n → let one = getD l i (span 0 0) in w .t0 < one .first → Why (questionOf s) (has 4 (flagsOf g w one)) (has 8 (flagsOf g w one))
+    -- a first above t0 says why: it has 4 or 8 or both, to question 1 exactly 4
+    pub first-says-why : (i : ℕ) → i < n → let one = intervalOf g w (getD l i (span 0 0)) in w .t0 < one .first → Why (questionOf s) (has 4 (one .flags)) (has 8 (one .flags))
+    unfolding intervalOf
     first-says-why i below = first-why (questionOf s) f g tells w (good job h) i (subst (λ (m : ℕ). i < m) intervals-is below)
 
-    -- 16 or 32 of a last below t1, to question 1 exactly 16
-    pub last-says-why : (i : ℕ) → i < n → let one = getD l i (span 0 0) in one .last < w .t1 → Why (questionOf s) (has 16 (flagsOf g w one)) (has 32 (flagsOf g w one))
+    -- and so does a last below t1: it has 16 or 32 or both, to question 1 exactly 16
+    pub last-says-why : (i : ℕ) → i < n → let one = intervalOf g w (getD l i (span 0 0)) in one .last < w .t1 → Why (questionOf s) (has 16 (one .flags)) (has 32 (one .flags))
+    unfolding intervalOf
     last-says-why i below = last-why (questionOf s) f g tells w (good job h) i (subst (λ (m : ℕ). i < m) intervals-is below)
 
     -- a yes at t0 opens the first interval there

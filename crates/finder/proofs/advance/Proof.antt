@@ -12,51 +12,51 @@ use Rattle.finder.proofs.advance.Tie as tie
 answer-requires : tie.Need-answer-requires
 answer-requires c κs = search needs
 
-add-t12 : tie.Need-add-t12
-add-t12 c = search needs
+add-t13 : tie.Need-add-t13
+add-t13 c = search needs
 
 returns : tie.Need-returns
 returns c =
     let asked = c .before .before .before in
     let start = asked .before .before .before in
     let a = start .args in
-    stays (answerAt (a .o) (a .question)) (sightAt (a .o) (a .question)) (a .w) (a .s) (a .b) (start .pre .0 .2) (start .pre .0 .1) (asked .answer .result) (asked .answer .ensures)
-    (c .before .if1 .taken) _
+    stays (answerAt (a .o) (a .question)) (sightAt (a .o) (a .question)) (a .w) (a .s) (a .b) (a .out .now) (start .pre .1) (asked .answer .result) (asked .answer .ensures) (c .before .if1 .taken)
 
 halve-requires : tie.Need-halve-requires
 halve-requires c κs = search needs
 
+add-asked : tie.Need-add-asked
+add-asked c = search needs
+
+add-asked-2 : tie.Need-add-asked-2
+add-asked-2 c =
+    let found = c .before .before in
+    let start = found .before .before .before .before .before .before in
+    let a = start .args in
+    omega (arith, found-most (answerAt (a .o) (a .question)) (a .s .at) (a .b) (found .halve .result) (found .halve .ensures), start .pre .1 .few)
+
 why-requires : tie.Need-why-requires
 why-requires c κs =
-    let apart = c .before in
+    let found = c .before .before in
+    let apart = found .before in
     let asked = apart .before .before in
     let start = asked .before .before .before in
     let a = start .args in (
-      start .pre .0 .0,
-      turned (answerAt (a .o) (a .question)) (sightAt (a .o) (a .question)) (a .w) (a .s) (a .b) (start .pre .0 .2) (start .pre .0 .1) (asked .answer .result) (asked .answer .ensures)
-          (apart .if1 .left) (c .halve .result) (c .halve .ensures),
+      start .pre .0,
+      turned (answerAt (a .o) (a .question)) (sightAt (a .o) (a .question)) (a .w) (a .s) (a .b) (a .out .now) (start .pre .1) (asked .answer .result) (asked .answer .ensures)
+          (apart .if1 .left) (found .halve .result) (found .halve .ensures),
     )
-
-add-t13 : tie.Need-add-t13
-add-t13 c = search needs
-
-add-t14 : tie.Need-add-t14
-add-t14 c =
-    let found = c .before .before .before .before in
-    let start = found .before .before .before .before .before .before in
-    let a = start .args in
-    omega (arith, found-most (answerAt (a .o) (a .question)) (a .s .at) (a .b) (found .halve .result) (found .halve .ensures), start .pre .0 .3)
 
 returns-2 : tie.Need-returns-2
 returns-2 c =
-    let told = c .before .before .before in
-    let found = told .before in
+    let told = c .before in
+    let found = told .before .before .before in
     let apart = found .before in
     let asked = apart .before .before in
     let start = asked .before .before .before in
     let a = start .args in
-    begins (answerAt (a .o) (a .question)) (sightAt (a .o) (a .question)) (a .w) (a .s) (a .b) (start .pre .0 .2) (start .pre .0 .1) (asked .answer .result) (asked .answer .ensures)
-    (apart .if1 .left) (found .halve .result) (found .halve .ensures) (told .why .result) (told .why .ensures) (c .before .before .if2 .taken) _
+    begins (answerAt (a .o) (a .question)) (sightAt (a .o) (a .question)) (a .w) (a .s) (a .b) (a .out .now) (start .pre .1) (asked .answer .result) (asked .answer .ensures)
+    (apart .if1 .left) (found .halve .result) (found .halve .ensures) (told .why .result) (told .why .ensures) (c .if2 .taken)
 
 mul-put : tie.Need-mul-put
 mul-put c = omega (arith, bits-most _ 4 8 _ _ (c .before .before .why .ensures))
@@ -65,61 +65,49 @@ put-requires : tie.Need-put-requires
 put-requires c κs =
     let last = c .before in
     let told = last .before in
-    let found = told .before in
+    let found = told .before .before .before in
     let apart = found .before in
     let asked = apart .before .before in
     let start = asked .before .before .before in
     let a = start .args in
-    ends-room (answerAt (a .o) (a .question)) (sightAt (a .o) (a .question)) (a .w) (a .s) (a .b) (start .pre .0 .2) (start .pre .0 .1) (asked .answer .result) (asked .answer .ensures)
-    (apart .if1 .left) (found .halve .result) (found .halve .ensures) (told .why .result) (told .why .ensures) (last .if2 .left) (a .out .now) (start .pre .1)
+    ends-room (answerAt (a .o) (a .question)) (sightAt (a .o) (a .question)) (a .w) (a .s) (a .b) (a .out .now) (start .pre .1) (asked .answer .result) (asked .answer .ensures)
+    (apart .if1 .left) (found .halve .result) (found .halve .ensures) (told .why .result) (told .why .ensures) (last .if2 .left)
 
 add-t19 : tie.Need-add-t19
 add-t19 c =
-    let start = c .before .before .before .before .before .before .before .before .before .before .before .before .before in
-    search (needs, start .pre .1)
-
-add-t20 : tie.Need-add-t20
-add-t20 c = search needs
-
-add-t21 : tie.Need-add-t21
-add-t21 c =
-    let found = c .before .before .before .before .before .before .before .before .before in
-    let start = found .before .before .before .before .before .before in
-    let a = start .args in
-    omega (arith, found-most (answerAt (a .o) (a .question)) (a .s .at) (a .b) (found .halve .result) (found .halve .ensures), start .pre .0 .3)
+    let start = c .before .before .before .before .before .before .before .before .before .before .before .before .before .before .before in
+    search (needs, start .pre .1 .room)
 
 same-length : tie.Need-same-length
 same-length c = search needs
 
 returns-3 : tie.Need-returns-3
 returns-3 c =
-    let put = c .before .before .before .before .before in
+    let put = c .before .before .before in
     let last = put .before .before in
     let told = last .before in
-    let found = told .before in
+    let found = told .before .before .before in
     let apart = found .before in
     let asked = apart .before .before in
     let start = asked .before .before .before in
     let a = start .args in
-    ends (answerAt (a .o) (a .question)) (sightAt (a .o) (a .question)) (a .w) (a .s) (a .b) (start .pre .0 .2) (start .pre .0 .1) (asked .answer .result) (asked .answer .ensures)
-    (apart .if1 .left) (found .halve .result) (found .halve .ensures) (told .why .result) (told .why .ensures) (last .if2 .left) _ _ (put .put .ensures)
+    ends (answerAt (a .o) (a .question)) (sightAt (a .o) (a .question)) (a .w) (a .s) (a .b) (a .out .now) (start .pre .1) (asked .answer .result) (asked .answer .ensures)
+    (apart .if1 .left) (found .halve .result) (found .halve .ensures) (told .why .result) (told .why .ensures) (last .if2 .left) _ (put .put .ensures)
 
 pub advance-spec : {M : Type 1} → statement M
 advance-spec =
     tie.close
     (tie.spec
     answer-requires
-    add-t12
+    add-t13
     returns
     halve-requires
+    add-asked
+    add-asked-2
     why-requires
-    add-t13
-    add-t14
     returns-2
     mul-put
     put-requires
     add-t19
-    add-t20
-    add-t21
     same-length
     returns-3)

@@ -3,7 +3,7 @@ use mathlib.Core.Path.{_∙_}
 use borrow.Author.Needs.{needs}
 use Rattle.geometry.specs.Visible.{answerAt}
 use Rattle.geometry.specs.Sight.{sightAt}
-use Rattle.finder.proofs.Going.{Going, going-start, going-sampled, going-stretch, going-along, going-few, going-room, going-on, end-room, end-flagged, end-found, end-out}
+use Rattle.finder.proofs.Going.{Going, going-start, going-sampled, going-along, going-on, end-room, end-flagged, end-found, end-out}
 use Rattle.finder.proofs.list.Statement.{statement}
 use Rattle.finder.proofs.list.Tie as tie
 
@@ -35,12 +35,8 @@ advance-requires : tie.Need-advance-requires Inv-loop μ-loop
 advance-requires c κs =
     let head = c .before .before .before in
     let start = head .before .before .before .before .before in
-    let going = head .loop .inv in
     let b = c .before .sample in
-    let good = start .pre .1 in (
-      (start .pre .0, going-stretch good going (b .result) (b .ensures), going-along good going (b .result) (b .ensures), going-few good going),
-      going-room good going (c .before .before .loop-test .taken) (start .pre .2) (b .result) (b .ensures),
-    )
+    (start .pre .0, going-along (start .pre .1) (head .loop .inv) (c .before .before .loop-test .taken) (start .pre .2) (b .result) (b .ensures))
 
 sub-left : tie.Need-sub-left Inv-loop μ-loop
 sub-left c = search needs

@@ -24,6 +24,14 @@ extern "C" {
 #define QUECHOTZAL_ANSWER_BYTES 32u   /* an answer */
 #define QUECHOTZAL_LIST_BYTES 49176u  /* a list that has room for any job: 4,096 steps, so at most 2,049 intervals */
 
+/* The flags of an interval, a sum. Where first is t0, or last is t1, that end's other two are not set; else one of them is or both. */
+#define QUECHOTZAL_FLAG_FROM_START 1u   /* first is t0 */
+#define QUECHOTZAL_FLAG_TO_END 2u       /* last is t1 */
+#define QUECHOTZAL_FLAG_FIRST_HIDDEN 4u /* the hidden answer differs between first - 1 and first */
+#define QUECHOTZAL_FLAG_FIRST_UP 8u     /* the up answer does; never for question 1 */
+#define QUECHOTZAL_FLAG_LAST_HIDDEN 16u /* the hidden answer differs between last and last + 1 */
+#define QUECHOTZAL_FLAG_LAST_UP 32u     /* the up answer does; never for question 1 */
+
 /* Where the answer's numbers stand. */
 #define QUECHOTZAL_REFUSAL_AT 0u    /* u32: the refusal's number, 0 for none */
 #define QUECHOTZAL_FIELD_AT 4u      /* u32: the field that offends, 1 to 13, for refusals 3 and 4; else 0 */

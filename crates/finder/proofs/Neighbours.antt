@@ -11,14 +11,18 @@ use Rattle.halving.proofs.Among.{alike-at, Met, ends-met}
 use Rattle.geometry.specs.declared.Sight.{Sight}
 use Rattle.finder.specs.declared.Window.{Window}
 use Rattle.finder.specs.Samples.{longestStep, Good, samples}
-use Rattle.finder.specs.Spans.{Span, sameAs, edge, closedIn, firstAfter, ended, walk, listOf}
-use Rattle.finder.specs.Asked.{middlesIn, askedAfter, instantsOf, FirstAsked, LastAsked, EndsAsked}
+use Rattle.finder.specs.Spans.{Span, Each, sameAs, edge, closedIn, firstAfter, ended, walk, listOf}
+use Rattle.finder.specs.Asked.{middlesIn, askedAfter, instantsOf, FirstAsked, LastAsked}
 use Rattle.finder.specs.Flags.{firstFlags, lastFlags, flagsOf}
 use Rattle.finder.specs.Records.{intervalOf, recordsOf}
 use Rattle.finder.specs.Fits.{Rising, Short, lastOf}
 use Rattle.finder.proofs.Samples.{samples-rise, samples-short, samples-end}
 use Rattle.finder.proofs.OneStep.{closed-same, first-same, closed-ends, first-ends, closed-begins, first-begins}
 use Rattle.finder.proofs.Edged.{edged}
+
+-- both ends of each interval
+abbrev EndsAsked : Window → List ℕ → List Span → Type 0
+EndsAsked w asked = Each (λ s. FirstAsked w asked (s .first) × LastAsked w asked (s .last))
 
 -- ---- one step
 

@@ -7,7 +7,7 @@ use mathlib.Core.Bool.{Bool, cond}
 use Rattle.halving.specs.Halving.{middlesOf, Among}
 use Rattle.finder.specs.declared.Window.{Window}
 use Rattle.finder.specs.Samples.{samples}
-use Rattle.finder.specs.Spans.{Span, Each, sameAs}
+use Rattle.finder.specs.Spans.{sameAs}
 
 -- the middles of a step from a to b, one per halving; none where its ends agree
 unfoldable pub middlesIn : (ℕ → Bool) → ℕ → ℕ → List ℕ
@@ -39,7 +39,3 @@ FirstAsked w asked first = (first ≡ w .t0) ⊎ (Among (first - 1) asked × Amo
 -- a last is t1, or both it and the instant after it are
 abbrev pub LastAsked : Window → List ℕ → ℕ → Type 0
 LastAsked w asked last = (last ≡ w .t1) ⊎ (Among last asked × Among (last + 1) asked)
-
--- both ends of each interval
-abbrev pub EndsAsked : Window → List ℕ → List Span → Type 0
-EndsAsked w asked = Each (λ s. FirstAsked w asked (s .first) × LastAsked w asked (s .last))

@@ -34,53 +34,60 @@ record-is : (g : ℕ → Sight) (w : Window) (s : State) (last flags : ℕ) → 
 unfolding writeOf recordsOf intervalOf flagsOf
 record-is g w s last flags p q out = rw (p, q, append-nil)
 
-module _ (f : ℕ → Bool) (g : ℕ → Sight) (w : Window) (s : State) (b : ℕ) (out : List ℕ) (along : Along f g w s b out) (yes′ : Bool) (at-b : yes′ ≡ f b) where
-  abbrev at-a : s .was ≡ f (s .at)
-  at-a = along .stretch .answered
+-- the state r and the bytes out′ are those after the step
+abbrev Made : (ℕ → Bool) → (ℕ → Sight) → Window → State → ℕ → List ℕ → State → List ℕ → Type 0
+Made f g w s b out r out′ = (r ≡ advanced f g w s b) × (out′ ≡ written g w out (s .count) (closedIn f (s .first) (s .at) b))
 
-  abbrev closes-here : List Span
-  closes-here = closedIn f (s .first) (s .at) b
+-- what the code has of a step whose ends differ: b answered yes′, and the neighbours e were found
+pub record Parted (f : ℕ → Bool) (g : ℕ → Sight) (w : Window) (s : State) (b : ℕ) (out : List ℕ) (yes′ : Bool) (e : Edge) : Type 0 where
+  pub along : Along f g w s b out
+  pub at-b : yes′ ≡ f b
+  pub apart : Bool·beq yes′ (s .was) ≡ false
+  pub found : e ≡ edge f (s .at) b
 
-  -- the state r and the bytes out′ are those after the step
-  abbrev Made : State → List ℕ → Type 0
-  Made r out′ = (r ≡ advanced f g w s b) × (out′ ≡ written g w out (s .count) closes-here)
-
+module _ {f : ℕ → Bool} {g : ℕ → Sight} {w : Window} {s : State} {b : ℕ} {out : List ℕ} {yes′ : Bool} where
   -- a step whose ends agree
-  module _ (agree : Bool·beq yes′ (s .was) ≡ true) where
+  module _ (along : Along f g w s b out) (at-b : yes′ ≡ f b) (agree : Bool·beq yes′ (s .was) ≡ true) where
     same : f (s .at) ≡ f b
-    same = sym at-a ∙ sym (beq-true yes′ (s .was) agree) ∙ at-b
+    same = sym (along .stretch .answered) ∙ sym (beq-true yes′ (s .was) agree) ∙ at-b
 
-    pub stays : Made (record { at = b; was = yes′; first = s .first; begun = s .begun; count = s .count; asked = s .asked + 1 }) out
+    pub stays : Made f g w s b out (record { at = b; was = yes′; first = s .first; begun = s .begun; count = s .count; asked = s .asked + 1 }) out
     unfolding advanced recordsOf
     stays =
         let none : s .count ≡ s .count + 0 = omega arith in
         rw (
           closed-same f (s .first) (s .at) b same,
           first-same f (s .first) (s .at) b same,
-          middles-same f (s .at) b (rw (← at-a, ← at-b) agree),
+          middles-same f (s .at) b (rw (← along .stretch .answered, ← at-b) agree),
           ← along .begun,
         )
         (cc, refl)
 
   -- a step whose ends differ
-  module _ (apart : Bool·beq yes′ (s .was) ≡ false) (e : Edge) (found : e ≡ edge f (s .at) b) where
+  module _ {e : Edge} (p : Parted f g w s b out yes′ e) where
+    abbrev at-b : yes′ ≡ f b
+    at-b = p .at-b
+
+    abbrev at-a : s .was ≡ f (s .at)
+    at-a = p .along .stretch .answered
+
     others : (s .was ≡ not yes′) × (not (s .was) ≡ yes′)
-    others = opposite yes′ (s .was) apart
+    others = opposite yes′ (s .was) (p .apart)
 
     unlike : f (s .at) ≢ f b
-    unlike same = true≢false (sym (beq-refl yes′) ∙ ap (Bool·beq yes′) (at-b ∙ sym same ∙ sym at-a) ∙ apart)
+    unlike same = true≢false (sym (beq-refl yes′) ∙ ap (Bool·beq yes′) (at-b ∙ sym same ∙ sym at-a) ∙ p .apart)
 
     -- the neighbours that were found
     sides : Edged f (s .at) b e
-    sides = rw found (edged f (s .at) b (along .stretch .from) (along .stretch .near) unlike)
+    sides = rw (p .found) (edged f (s .at) b (p .along .stretch .from) (p .along .stretch .near) unlike)
 
     pub turned : Turned f e (s .was)
     turned = record { low = at-a ∙ sym (sides .low); high = others .1 ∙ at-b ∙ sym (sides .high) ∙ ap f (sym (sides .next)) }
 
     counted : s .asked + 1 + e .asked ≡ s .asked + suc (length (middlesIn f (s .at) b))
-    counted = rw found (omega (arith, middles-differ f (s .at) b (rw (← at-a, ← at-b) apart)))
+    counted = rw (p .found) (omega (arith, middles-differ f (s .at) b (rw (← at-a, ← at-b) (p .apart))))
 
-    module _ (why : ℕ) (told : why ≡ differing 4 8 (g (e .low)) (g (e .high))) where
+    module _ {why : ℕ} (told : why ≡ differing 4 8 (g (e .low)) (g (e .high))) where
       -- from no to yes
       module _ (b-yes : yes′ ≡ true) where
         to-yes : f b ≡ true
@@ -90,14 +97,14 @@ module _ (f : ℕ → Bool) (g : ℕ → Sight) (w : Window) (s : State) (b : �
         from-no = sym at-a ∙ others .0 ∙ ap not b-yes
 
         first-told : why ≡ firstFlags g w (e .high)
-        first-told = told ∙ rw (sides .next) (sym (first-behind g w (e .low) (omega (arith, along .from, sides .from))))
+        first-told = told ∙ rw (sides .next) (sym (first-behind g w (e .low) (omega (arith, p .along .from, sides .from))))
 
-        pub begins : Made (record { at = b; was = yes′; first = e .high; begun = why; count = s .count; asked = s .asked + 1 + e .asked }) out
+        pub begins : Made f g w s b out (record { at = b; was = yes′; first = e .high; begun = why; count = s .count; asked = s .asked + 1 + e .asked }) out
         unfolding advanced recordsOf
         begins =
             let none : s .count ≡ s .count + 0 = omega arith in
             rw
-            (closed-begins f (s .first) (s .at) b from-no to-yes, first-begins f (s .first) (s .at) b from-no to-yes, ← found, ← counted, ← first-told)
+            (closed-begins f (s .first) (s .at) b from-no to-yes, first-begins f (s .first) (s .at) b from-no to-yes, ← p .found, ← counted, ← first-told)
             (cc, refl)
 
       -- from yes to no
@@ -109,20 +116,20 @@ module _ (f : ℕ → Bool) (g : ℕ → Sight) (w : Window) (s : State) (b : �
         from-yes = sym at-a ∙ others .0 ∙ ap not b-no
 
         last-told : 4 * why ≡ lastFlags g w (e .low)
-        last-told = ap (λ (n : ℕ). 4 * n) told ∙ rw (sides .next) (sym (last-before g w (e .low) (omega (arith, along .to, sides .to))))
+        last-told = ap (λ (n : ℕ). 4 * n) told ∙ rw (sides .next) (sym (last-before g w (e .low) (omega (arith, p .along .to, sides .to))))
 
-        closes : closes-here ≡ span (s .first) (e .low) ∷ []
-        closes = closed-ends f (s .first) (s .at) b from-yes to-no ∙ ap (λ (x : Edge). span (s .first) (x .low) ∷ []) (sym found)
+        closes : closedIn f (s .first) (s .at) b ≡ span (s .first) (e .low) ∷ []
+        closes = closed-ends f (s .first) (s .at) b from-yes to-no ∙ ap (λ (x : Edge). span (s .first) (x .low) ∷ []) (sym (p .found))
 
         pub ends-room : RoomFor (s .count) 1 out × Flagged s (4 * why)
-        ends-room = (rw closes at (along .room), omega (arith, along .begun, first-most g w (s .first), bits-most _ 4 8 _ _ told))
+        ends-room = (rw closes at (p .along .room), omega (arith, p .along .begun, first-most g w (s .first), bits-most _ 4 8 _ _ told))
 
-        pub ends : (out′ : List ℕ) → out′ ≡ closedOut w s (e .low) (4 * why) out
-            → Made (record { at = b; was = yes′; first = s .first; begun = s .begun; count = s .count + 1; asked = s .asked + 1 + e .asked }) out′
+        pub ends : {out′ : List ℕ} → out′ ≡ closedOut w s (e .low) (4 * why) out
+            → Made f g w s b out (record { at = b; was = yes′; first = s .first; begun = s .begun; count = s .count + 1; asked = s .asked + 1 + e .asked }) out′
         unfolding advanced
-        ends out′ h =
-            rw (closes, first-ends f (s .first) (s .at) b from-yes to-no, ← counted, ← along .begun)
-            (cc, h ∙ record-is g w s (e .low) (4 * why) (along .begun) last-told out)
+        ends h =
+            rw (closes, first-ends f (s .first) (s .at) b from-yes to-no, ← counted, ← p .along .begun)
+            (cc, h ∙ record-is g w s (e .low) (4 * why) (p .along .begun) last-told out)
 
 -- after the last sample
 module _ (w : Window) (s : State) where

@@ -2,4 +2,5 @@
 pub mod Bounds
 pub mod Laws
 pub mod Told
+pub mod Elsewhere
 pub mod Only

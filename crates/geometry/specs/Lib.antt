@@ -5,3 +5,4 @@ pub mod Placed
 pub mod Hidden
 pub mod Visible
 pub mod Sight
+pub mod Elsewhere

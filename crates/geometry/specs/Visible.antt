@@ -1,7 +1,7 @@
--- When the station sees the planet, and the answer to a question (document 01, "Hidden and visible").
+-- When the station sees the planet, and the answer to a question (document 01, "Hidden and visible"; document 02, wish 2).
 use mathlib.Core.Bool.{Bool, _&&_, not, cond}
 use mathlib.Core.List.{List}
-use Prim.Native.Nat.{ℕ}
+use Prim.Native.Nat.{ℕ, _*_}
 use lib.Dec.{eqb}
 use lib.IntN.{ℤ, negℤ}
 use lib.Signed.{leZ}
@@ -12,13 +12,17 @@ use Rattle.rotation.specs.Rotation.{turnOf, directionOf}
 use Rattle.geometry.specs.declared.Orbit.{Orbit}
 use Rattle.geometry.specs.Hidden.{hiddenAt}
 
--- in ms
-abbrev pub day : ℕ
-day = 86400000
+-- ten times the ms of a turn: the stars see one turn in 86,164.0905 s (document 02, wish 2)
+abbrev pub sidereal : ℕ
+sidereal = 861640905
 
--- τ = longitude + Greenwich + floor((t mod 86,400,000)·2^32/86,400,000), modulo 2^32: one turn a day (source 002, equation (7))
+-- the station's term: floor(((10·t) mod 861,640,905)·2^32 / 861,640,905) (document 02, wish 2, for the one turn a day of source 002, equation (7))
+unfoldable pub termAt : ℕ → ℕ
+termAt t = phaseOf sidereal (10 * t)
+
+-- τ = longitude + Greenwich + the station's term, modulo 2^32
 unfoldable pub τOf : Orbit → ℕ → ℕ
-τOf o t = addOf (o .station .meridian .units) (phaseOf day t)
+τOf o t = addOf (o .station .meridian .units) (termAt t)
 
 -- u = (cos lat∘cos τ, cos lat∘sin τ, sin lat)
 unfoldable pub zenithOf : Orbit → ℕ → List ℤ

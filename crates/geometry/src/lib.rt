@@ -7,7 +7,7 @@ ghost use Rattle.geometry.specs.Prepared.{minorOf, ellipseOf, rotationFo
 ghost use Rattle.geometry.specs.Ready.{Ready, SoundOrbit, InOrbit, deepest};
 ghost use Rattle.geometry.specs.Placed.{meanOf, anomalyOf, settlesAt, placeOf};
 ghost use Rattle.geometry.specs.Hidden.{depthOf, behindOf, hiddenAt};
-ghost use Rattle.geometry.specs.Visible.{zenithOf, upAt, visibleAt, answerAt};
+ghost use Rattle.geometry.specs.Visible.{termAt, zenithOf, upAt, visibleAt, answerAt};
 ghost use Rattle.geometry.specs.Sight.{sightAt, Answered};
 use angle::Angle;
 use elements::rounding::Wholes;
@@ -58,8 +58,8 @@ pub struct Sight {
 // 2^60.
 const ONE_SQUARED: u64 = 1_152_921_504_606_846_976;
 
-// In ms.
-const DAY: u32 = 86_400_000;
+// Ten times the ms in which the station turns once: the turn is no whole number of ms.
+const SIDEREAL: u32 = 861_640_905;
 
 // a∘q, half the minor axis.
 fn minor(w: Wholes) -> i64
@@ -217,13 +217,21 @@ pub fn hidden(t: &[u32], o: Orbit, at: u64) -> bool
     behind(o, a, depth(o, a))
 }
 
+// The station's term at an instant. What makes whole turns of ten times it goes first, so that the product fits 64 bits at any instant.
+fn term(at: u64) -> Angle
+    ensures { λ r. ⌜ r .units ≡ termAt at ⌝ }
+{
+    let rest = at % SIDEREAL as u64;
+    kepler::phase(SIDEREAL, 10 * rest)
+}
+
 // u, the station's zenith at an instant.
 fn zenith(t: &[u32], o: Orbit, at: u64) -> [i64; 3]
     requires { ⌜ Ready (now t) o ⌝ }
     ensures { λ r. ⌜ r ≡ zenithOf o at ⌝ }
 {
     let s = o.station;
-    let tau = s.meridian.add(kepler::phase(DAY, at));
+    let tau = s.meridian.add(term(at));
     rotation::direction(rotation::turn_of(t, tau), s.latitude)
 }
 

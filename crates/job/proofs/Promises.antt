@@ -8,8 +8,9 @@
 --   Fits, InOrder, listed, Changes                         finder/specs/Fits.antt          recordBytes, parsedOf               interval/specs/Record.antt
 --   has, Says, Why                                         finder/specs/Flags.antt         FirstAsked, LastAsked               finder/specs/Asked.antt
 --   Alike                                                  halving/specs/Halving.antt      sightsIn                            job/specs/Outcome.antt
+--   seenFrom, turnedBy                                     geometry/specs/Elsewhere.antt
 use Prim.Native.Nat.{ℕ, suc, _+_, _*_, _≤_, _<_}
-use mathlib.Core.Path.{_≡_, refl, sym, ap, subst, _∙_}
+use mathlib.Core.Path.{_≡_, refl, sym, ap, subst, fun-ext, _∙_}
 use mathlib.Core.Logic.{_↔_, _⊎_, _≢_}
 use mathlib.Core.Bool.{Bool, true, false, not, _&&_}
 use mathlib.Core.List.{List, _++_}
@@ -36,9 +37,13 @@ use Rattle.elements.specs.Reading.{elementsOf, Returns}
 use Rattle.elements.specs.Accepted.{Accepted}
 use Rattle.geometry.specs.Hidden.{hiddenAt}
 use Rattle.geometry.specs.Visible.{upAt, visibleAt, answerAt}
+use Rattle.geometry.specs.declared.Station.{Station}
+use Rattle.geometry.specs.declared.Orbit.{Orbit}
 use Rattle.geometry.specs.declared.Sight.{Sight}
 use Rattle.geometry.specs.Sight.{sightAt}
+use Rattle.geometry.specs.Elsewhere.{seenFrom, turnedBy}
 use Rattle.geometry.proofs.Told as told-by
+use Rattle.geometry.proofs.Elsewhere as elsewhere
 use Rattle.interval.specs.Record.{recordBytes, parsedOf}
 use Rattle.interval.specs.declared.Parsed.the-variants.{Record}
 use Rattle.finder.specs.declared.Window.{Window}
@@ -200,6 +205,27 @@ module _ (s old : List ℕ) (o : Outcome) (new : List ℕ) (job : Job s old o ne
         hidden = λ q t. told-by.asks-hidden (orbitWith (elementsOf s)) (questionOf s) t q;
         no-up = tells-no-up;
       }
+
+  -- the orbit, and the same list byte for byte from the same instants with another station in it, at each instant another
+  abbrev orbit : Orbit
+  orbit = orbitWith (elementsOf s)
+
+  abbrev SameFrom : (ℕ → Station) → Type 0
+  SameFrom other =
+      let f′ : ℕ → Bool = λ t. answerAt (seenFrom (other t) orbit) (questionOf s) t in
+      let g′ : ℕ → Sight = λ t. sightAt (seenFrom (other t) orbit) (questionOf s) t in
+      (recordsOf g′ w (listOf f′ w) ≡ recordsOf g w l) × (instantsOf f′ w ≡ instantsOf f w)
+
+  -- to question 1 no station matters
+  pub station-unused : questionOf s ≡ 1 → (other : ℕ → Station) → SameFrom other
+  station-unused q other =
+      let f-same = fun-ext (λ (t : ℕ). elsewhere.answer-anywhere orbit (other t) t q) in
+      let g-same = fun-ext (λ (t : ℕ). elsewhere.sight-anywhere orbit (other t) t q) in
+      rw (f-same, g-same) (refl, refl)
+
+  -- and so its turn does not: whatever `term` is at each instant in place of the station's own
+  pub turn-unused : questionOf s ≡ 1 → (term : ℕ → ℕ) → SameFrom (λ t. turnedBy (term t) t (orbit .station))
+  turn-unused q term = station-unused q (λ t. turnedBy (term t) t (orbit .station))
 
   -- n intervals were listed, and k instants asked
   module _ {n k : ℕ} (h : o ≡ Listed n k) where

@@ -14,7 +14,7 @@ use Rattle.halving.specs.Halving.{halve}
 abbrev pub Period : ℕ → Type 0
 Period p = 0 < p
 
--- M = floor((t mod p)·2^32/p); with a day for p the station's turn too (source 002, equation 7: one turn a day)
+-- M = floor((t mod p)·2^32/p), of t in a turn that takes p; the station's term too (geometry, `termAt`)
 unfoldable pub phaseOf : ℕ → ℕ → ℕ
 phaseOf p t = t % p * turn / p
 

@@ -11,7 +11,7 @@ const TURN: u64 = 4_294_967_296;
 // The nearest whole number to 2^32/2π.
 const RADIAN: i64 = 683_565_276;
 
-// How far an instant lies in a turn that takes `period`: M, and the station's turn in a day.
+// How far an instant lies in a turn that takes `period`: M, and the station's term.
 pub fn phase(period: u32, at: u64) -> Angle
     requires { ⌜ Period period ⌝ }
     ensures { λ r. ⌜ r .units ≡ phaseOf period at ⌝ }

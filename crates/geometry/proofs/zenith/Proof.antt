@@ -9,8 +9,8 @@ use borrow.Author.Needs.{needs}
 use Rattle.geometry.proofs.zenith.Statement.{statement}
 use Rattle.geometry.proofs.zenith.Tie as tie
 
-phase-requires : tie.Need-phase-requires
-phase-requires c κs = search needs
+term-requires : tie.Need-term-requires
+term-requires c κs = search needs
 
 add-requires : tie.Need-add-requires
 add-requires c κs = search needs
@@ -28,8 +28,8 @@ returns c =
     let s = turned .before .before .before .before .args .o .station in
     c .direction .ensures
     ∙ ap (λ (τ : Turn). directionOf τ (s .latitude))
-    (c .before .turn-of .ensures ∙ ap turnOf (turned .add .ensures ∙ ap (addOf (s .meridian .units)) (turned .before .phase .ensures)))
+    (c .before .turn-of .ensures ∙ ap turnOf (turned .add .ensures ∙ ap (addOf (s .meridian .units)) (turned .before .term .ensures)))
 
 pub zenith-spec : {M : Type 1} → statement M
 zenith-spec =
-    tie.close (tie.spec phase-requires add-requires turn-of-requires direction-requires returns)
+    tie.close (tie.spec term-requires add-requires turn-of-requires direction-requires returns)

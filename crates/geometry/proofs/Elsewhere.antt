@@ -1,0 +1,44 @@
+-- Question 1 does not use the station, and so not its turn: hidden, its answer and what tells why are the same with any other. By unfolding.
+use mathlib.Core.Path.{_≡_, refl, ap, _∙_}
+use Prim.Native.Nat.{ℕ, _+_, _*_, _-_, _%_, _<_}
+use native.Mathlib.Nat.{mod-add-mod, add-mod-right}
+use native.Mathlib.Omega.{arith}
+use lib.Dec.{lit<}
+use Rattle.angle.specs.Turn.{turn, addOf}
+use Rattle.kepler.proofs.Laws.{phase-lt}
+use Rattle.geometry.specs.declared.Station.{Station}
+use Rattle.geometry.specs.declared.Orbit.{Orbit}
+use Rattle.geometry.specs.Placed.{meanOf, anomalyOf, placeOf}
+use Rattle.geometry.specs.Hidden.{depthOf, behindOf, hiddenAt}
+use Rattle.geometry.specs.Visible.{sidereal, termAt, τOf, answerAt}
+use Rattle.geometry.specs.Sight.{sightAt}
+use Rattle.geometry.specs.Elsewhere.{seenFrom, turnedBy}
+
+module _ (o : Orbit) (s : Station) (t : ℕ) where
+  -- the hidden answer uses no station
+  pub hidden-anywhere : hiddenAt (seenFrom s o) t ≡ hiddenAt o t
+  unfolding hiddenAt behindOf depthOf placeOf anomalyOf meanOf
+  hidden-anywhere = refl
+
+  -- nor does the answer to question 1
+  pub answer-anywhere : {question : ℕ} → question ≡ 1 → answerAt (seenFrom s o) question t ≡ answerAt o question t
+  unfolding answerAt
+  answer-anywhere e = rw e hidden-anywhere
+
+  -- nor what tells why there
+  pub sight-anywhere : {question : ℕ} → question ≡ 1 → sightAt (seenFrom s o) question t ≡ sightAt o question t
+  unfolding sightAt
+  sight-anywhere e = rw (e, hidden-anywhere)
+
+-- a station's term is below a turn
+term-lt : (t : ℕ) → termAt t < turn
+unfolding termAt
+term-lt t = phase-lt sidereal (10 * t) (lit< tt)
+
+-- another turn is another meridian at each instant: with `term` for the station's own, τ is longitude + Greenwich + term
+pub turned-τ : (o : Orbit) (term t : ℕ) → τOf (seenFrom (turnedBy term t (o .station)) o) t ≡ addOf (o .station .meridian .units) term
+unfolding τOf
+turned-τ o term t = further (o .station .meridian .units) (termAt t) (term-lt t)
+  where
+    further : (m x : ℕ) → x < turn → addOf (addOf m (term + (turn - x))) x ≡ addOf m term
+    further m x below = mod-add-mod (m + (term + (turn - x))) turn x ∙ ap (λ (n : ℕ). n % turn) (omega (arith, below)) ∙ add-mod-right (m + term) turn

@@ -1,8 +1,9 @@
 """Document 01's rules in exact arithmetic: from an orbit record to what one instant answers, and from the program's input to its output.
 
-One function for each rule, in document 01's order and letters, with what document 02's wish 1 adds to the flags. It uses nothing of the crates, so
-that their numbers can be held against it; but it is no independent reading of document 01 (docs/DECISIONS.md, "The stored output"). Whole numbers
-and fractions only, but for the closest distance, which document 01 wants in floats. // is Python's floor, toward minus infinity.
+One function for each rule, in document 01's order and letters, with what document 02's wish 1 adds to the flags and the station's turn of its wish 2.
+It uses nothing of the crates, so that their numbers can be held against it; but it is no independent reading of document 01 (docs/DECISIONS.md,
+"The stored output"). Whole numbers and fractions only, but for the closest distance, which document 01 wants in floats. // is Python's floor, toward
+minus infinity.
 `at(orbit(record), t)` is one instant of a record that document 01 accepts, and `output(records)` is what the program writes.
 """
 from collections import namedtuple
@@ -14,7 +15,7 @@ from struct import pack, unpack
 ONE = 2**30
 QUARTER = 2**30
 TURN = 2**32
-DAY = 86_400_000
+SIDEREAL = 861_640_905  # ten times the station's turn in ms
 
 
 def scaled(a, b):
@@ -100,7 +101,7 @@ def cos(θ):
 # ---- Place in the orbit
 
 def phase(p, t):
-    """M, and with a day for p the station's turn."""
+    """M; and the station's term, with SIDEREAL for p and 10·t for t."""
     return t % p * TURN // p
 
 
@@ -165,7 +166,7 @@ def hidden(R, X, Y, d):
 
 
 def up(o, t):
-    τ = (o.longitude + o.greenwich + phase(DAY, t)) % TURN
+    τ = (o.longitude + o.greenwich + phase(SIDEREAL, 10 * t)) % TURN
     u = direction(τ, o.latitude)
     return -dot(u, direction(o.α, o.δ)) >= sin(o.elevation)
 

@@ -22,7 +22,8 @@ pub fn scaled3(a: i64, b: i64, c: i64) -> i64 {
 }
 
 /// floor((t mod p)·2^32 / p), the part of a turn made at instant t: M of
-/// document 01, Place in the orbit, and the day's turn of Hidden and visible.
+/// document 01, Place in the orbit, and the station's term of document 02,
+/// wish 2, where both are tenfold.
 ///
 /// t mod p is below 2^32, so the shifted number fits in 64 bits, and the
 /// quotient is below 2^32. p is not 0: a period is at least 60,000 ms.

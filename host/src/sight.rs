@@ -1,5 +1,5 @@
 //! Document 01, Hidden and visible: the answer at one instant; and document 02,
-//! wish 1: why it changes.
+//! wish 1: why it changes, and wish 2: how fast the station turns.
 
 use crate::place::Place;
 use crate::record::Job;
@@ -8,8 +8,18 @@ use crate::scaled::{part_of_turn, scaled};
 use crate::sine::Sine;
 use crate::whole::Whole;
 
-/// A day, ms: the station makes one turn in it.
-pub const DAY: u32 = 86_400_000;
+/// Ten turns of the station, ms. Document 02, wish 2: the stars see one turn in
+/// 86,164.0905 s, which is no whole number of ms.
+pub const TEN_TURNS: u32 = 861_640_905;
+
+/// Document 02, wish 2: the station's term,
+/// floor(((10·t) mod 861,640,905)·2^32 / 861,640,905).
+///
+/// 10·t fits in 64 bits: in a job t is at most 2,678,400,000.
+#[inline]
+pub fn station_term(t: u64) -> u32 {
+    part_of_turn(10 * t, TEN_TURNS)
+}
 
 fn square(x: i64) -> i128 {
     i128::from(x) * i128::from(x)
@@ -79,7 +89,7 @@ impl Station {
     /// τ, the station's turn, modulo 2^32.
     #[inline]
     pub fn tau(&self, t: u64) -> u32 {
-        self.turn.wrapping_add(part_of_turn(t, DAY))
+        self.turn.wrapping_add(station_term(t))
     }
 
     /// Up: −(ux∘Ex + uy∘Ey + uz∘Ez) ≥ sine of field 13. The planet is seen

@@ -7,7 +7,9 @@ use std::f64::consts::TAU;
 
 /// One unit of angle, in degrees.
 pub const UNIT: f64 = 360.0 / 4_294_967_296.0;
-pub const DAY: u64 = sight::DAY as u64;
+pub const DAY: u64 = 86_400_000;
+/// A turn of the station, in ms.
+pub const TURN: f64 = sight::TEN_TURNS as f64 / 10.0;
 pub const MONTH: u64 = refusal::LATEST;
 pub const LONGEST_STEP: u64 = refusal::LONGEST_STEP as u64;
 pub const MOST_STEPS: u64 = refusal::MOST_STEPS;
@@ -132,10 +134,10 @@ pub fn changes(job: Job) -> Vec<u64> {
     ends.filter(|end| ![0, MONTH].contains(end)).collect()
 }
 
-/// When the planet is highest on the first day, in ms: it stands in the south or in the north.
+/// When the planet is highest in the first turn, in ms: it stands in the south or in the north.
 pub fn highest(job: &Job) -> f64 {
     let [.., ascension, _, _, longitude, greenwich, _] = job.fields;
-    (ascension + 900.0 - longitude - greenwich) % 360.0 / 360.0 * DAY as f64
+    (ascension + 900.0 - longitude - greenwich) % 360.0 / 360.0 * TURN
 }
 
 /// A change in each of 4,096 steps: a step is an odd number of half turns and a little more, and

@@ -1,6 +1,6 @@
 //! Accepted jobs at the ends of what is accepted.
 
-use super::super::jobs::{self, over, DAY, LONGEST_STEP, MONTH, MOST_STEPS};
+use super::super::jobs::{self, over, DAY, LONGEST_STEP, MONTH, MOST_STEPS, TURN};
 use super::super::random::Random;
 use super::{digit, Pieces};
 use host::record::Job;
@@ -35,7 +35,7 @@ pub fn corners(random: &mut Random) -> Pieces {
         job.question = digit(&mut number, &[1, 2]);
         job.fields[1] = digit(&mut number, &[0.0, 0.95]);
         job.fields[2] = digit(&mut number, &[0.0, 90.0, 120.0, 180.0]);
-        job.fields[5] = random.one_of(&[60.0, 6_000.0, 86_400.0, 2_000_000.0]);
+        job.fields[5] = random.one_of(&[60.0, 6_000.0, TURN / 1_000.0, 2_000_000.0]);
         job.fields[6] = (random.float(0.02, 0.99) * closest(&job)).min(100_000.0);
         let (t0, t1, step) = digit(&mut number, &WINDOWS);
         over(job, t0, t1, step).encode().to_vec()

@@ -1,12 +1,11 @@
 //! Intervals that begin with a rise and end with a set of the planet.
 
-use super::super::jobs::{self, over, DAY, LONGEST_STEP, MARS, MONTH, MOST_STEPS, UNIT};
+use super::super::jobs::{self, over, DAY, LONGEST_STEP, MARS, MONTH, MOST_STEPS, TURN, UNIT};
 use super::super::random::Random;
 use super::{digit, Pieces};
 use host::record::Job;
-use host::scaled::part_of_turn;
 use host::search::{find, halve, Window};
-use host::sight::{self, Sight, Station};
+use host::sight::{station_term, Sight, Station};
 use host::sine;
 use host::whole::{angle, Whole, QUARTER};
 use std::iter;
@@ -36,10 +35,9 @@ fn meeting(mut job: Job, rise: bool, later: u64) -> Option<(Job, u64)> {
     let lit = an_end(MONTH / 2, rise, |t| !sight.shadow.hidden(t))?;
     let up = an_end(DAY, rise, |t| sight.station.up(t))?;
     let turned = lit - 1 + later;
-    let turn = |t| part_of_turn(t, sight::DAY);
     let greenwich = angle(job.fields[11])
-        .wrapping_add(turn(up))
-        .wrapping_sub(turn(turned));
+        .wrapping_add(station_term(up))
+        .wrapping_sub(station_term(turned));
     job.fields[11] = f64::from(greenwich) * UNIT;
     let end = match (job.question, rise) {
         (1, true) => lit - 1,
@@ -68,7 +66,7 @@ pub fn flickering(random: &mut Random) -> Pieces {
         let segment = f64::from(QUARTER) / sine::LAST as f64 * UNIT;
         let entry = random.below(4 * sine::LAST as u64) as f64;
         job.fields[7] = (entry + 0.5) * segment;
-        let moment = jobs::highest(&job) as u64 + DAY;
+        let moment = (jobs::highest(&job) + TURN) as u64;
         job.fields[12] = elevation(job, moment);
         let t0 = moment - MOST_STEPS / 2;
         over(job, t0, t0 + MOST_STEPS, 1).encode().to_vec()

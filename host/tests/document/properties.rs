@@ -199,8 +199,9 @@ fn by_floats(fields: &[f64; 13], t: u64) -> (f64, f64) {
     let d = dot(place, E);
     let off = (dot(place, place) - d * d).max(0.0).sqrt();
     let shadow = ((R - off) / a).min(-d / a);
-    let day = (t % 86_400_000) as f64 / 86_400_000.0 * turn;
-    let u = about_z(about_y([1.0, 0.0, 0.0], rad(10)), rad(11) + rad(12) + day);
+    let turned = (t as f64 / 86_164_090.5).fract() * turn;
+    let tau = rad(11) + rad(12) + turned;
+    let u = about_z(about_y([1.0, 0.0, 0.0], rad(10)), tau);
     (shadow, -dot(u, E) - rad(13).sin())
 }
 

@@ -6,6 +6,8 @@ use host::record::Interval;
 use std::f64::consts::TAU;
 
 const DAY: u64 = 86_400_000;
+/// Document 02, wish 2: one turn of the station, by the stars.
+const TURN_MINUTES: f64 = 86164.0905 / 60.0;
 
 /// The report does not print Greenwich's right ascension, nor the period, which follows from its gravitational constant.
 fn around_mars(greenwich: f64) -> Fields {
@@ -35,29 +37,31 @@ fn up(visible: &[Interval], hidden: &[Interval]) -> Vec<[u64; 2]> {
     up
 }
 
-/// No times are printed. By hand, with Greenwich at 0 and a turn in 86,400 s: the half arc is acos(sin 5° / cos 35.24°) =
-/// 83.8742212°, and the transit comes (360 − 243.11)/360 of a day after midnight. Mars hides the craft once on the second
-/// and the third day while it is up: a pass from rise to set, and two from rise to Mars and from Mars to set.
+/// No times are printed. By hand, with Greenwich at 0 and a turn in 86,164.0905 s: the half arc is acos(sin 5° / cos 35.24°) =
+/// 83.8742212°, and the transit comes (360 − 243.11)/360 of a turn after the epoch, then a turn later each time, which is
+/// 235.9095 s short of a day. Mars hides the craft once on the second and the third day while it is up: a pass from rise to
+/// set, and two from rise to Mars and from Mars to set.
 #[test]
 fn an_example_mars_over_goldstone() {
     let half_arc = (5.0f64.to_radians().sin() / 35.24f64.to_radians().cos())
         .acos()
         .to_degrees();
-    let minute = |degrees: f64| degrees / 360.0 * 1440.0;
+    let minute = |degrees: f64| degrees / 360.0 * TURN_MINUTES;
     let (rise, set) = (
         minute(360.0 - 243.11 - half_arc),
         minute(360.0 - 243.11 + half_arc),
     );
-    assert_near(132.0631153, rise, 5e-8, "rise, minutes");
-    assert_near(803.0568847, set, 5e-8, "set, minutes");
+    assert_near(131.7025256, rise, 5e-8, "rise, minutes");
+    assert_near(800.8641909, set, 5e-8, "set, minutes");
     let (visible, hidden) = (three_days(0.0, 2), three_days(0.0, 1));
     let up = up(&visible, &hidden);
     assert_eq!([visible.len(), hidden.len(), up.len()], [5, 3, 3]);
     let flags: Vec<u32> = visible.iter().map(|pass| pass.flags).collect();
     assert_eq!(flags, [8 + 32, 8 + 16, 4 + 32, 8 + 16, 4 + 32]);
-    for (day, [first, last]) in (0..).zip(up) {
-        assert_near(rise * 60_000.0, (first - day * DAY) as f64, 2.0, "rise, ms");
-        assert_near(set * 60_000.0, (last - day * DAY) as f64, 2.0, "set, ms");
+    for (turn, [first, last]) in (0..).zip(up) {
+        let ms = |minute: f64| (f64::from(turn) * TURN_MINUTES + minute) * 60_000.0;
+        assert_near(ms(rise), first as f64, 2.0, "rise, ms");
+        assert_near(ms(set), last as f64, 2.0, "set, ms");
     }
 }
 

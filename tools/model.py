@@ -15,7 +15,7 @@ from struct import pack, unpack
 ONE = 2**30
 QUARTER = 2**30
 TURN = 2**32
-SIDEREAL = 861_640_905  # ten times the station's turn in ms
+TEN_TURNS = 861_640_905  # of the station, in ms
 
 
 def scaled(a, b):
@@ -101,7 +101,7 @@ def cos(θ):
 # ---- Place in the orbit
 
 def phase(p, t):
-    """M; and the station's term, with SIDEREAL for p and 10·t for t."""
+    """M; and the station's term, with TEN_TURNS for p and 10·t for t."""
     return t % p * TURN // p
 
 
@@ -166,7 +166,7 @@ def hidden(R, X, Y, d):
 
 
 def up(o, t):
-    τ = (o.longitude + o.greenwich + phase(SIDEREAL, 10 * t)) % TURN
+    τ = (o.longitude + o.greenwich + phase(TEN_TURNS, 10 * t)) % TURN
     u = direction(τ, o.latitude)
     return -dot(u, direction(o.α, o.δ)) >= sin(o.elevation)
 

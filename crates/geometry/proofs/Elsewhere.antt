@@ -10,7 +10,7 @@ use Rattle.geometry.specs.declared.Station.{Station}
 use Rattle.geometry.specs.declared.Orbit.{Orbit}
 use Rattle.geometry.specs.Placed.{meanOf, anomalyOf, placeOf}
 use Rattle.geometry.specs.Hidden.{depthOf, behindOf, hiddenAt}
-use Rattle.geometry.specs.Visible.{sidereal, termAt, τOf, answerAt}
+use Rattle.geometry.specs.Visible.{tenTurns, termAt, τOf, answerAt}
 use Rattle.geometry.specs.Sight.{sightAt}
 use Rattle.geometry.specs.Elsewhere.{seenFrom, turnedBy}
 
@@ -33,7 +33,7 @@ module _ (o : Orbit) (s : Station) (t : ℕ) where
 -- a station's term is below a turn
 term-lt : (t : ℕ) → termAt t < turn
 unfolding termAt
-term-lt t = phase-lt sidereal (10 * t) (lit< tt)
+term-lt t = phase-lt tenTurns (10 * t) (lit< tt)
 
 -- another turn is another meridian at each instant: with `term` for the station's own, τ is longitude + Greenwich + term
 pub turned-τ : (o : Orbit) (term t : ℕ) → τOf (seenFrom (turnedBy term t (o .station)) o) t ≡ addOf (o .station .meridian .units) term

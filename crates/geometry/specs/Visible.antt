@@ -12,13 +12,13 @@ use Rattle.rotation.specs.Rotation.{turnOf, directionOf}
 use Rattle.geometry.specs.declared.Orbit.{Orbit}
 use Rattle.geometry.specs.Hidden.{hiddenAt}
 
--- ten times the ms of a turn: the stars see one turn in 86,164.0905 s (document 02, wish 2)
-abbrev pub sidereal : ℕ
-sidereal = 861640905
+-- ten turns of the station, in ms: the stars see one turn in 86,164.0905 s (document 02, wish 2)
+abbrev pub tenTurns : ℕ
+tenTurns = 861640905
 
--- the station's term: floor(((10·t) mod 861,640,905)·2^32 / 861,640,905) (document 02, wish 2, for the one turn a day of source 002, equation (7))
+-- the station's term: floor(((10·t) mod 861,640,905)·2^32 / 861,640,905) (document 02, wish 2; source 002's equation (7) has one turn a day)
 unfoldable pub termAt : ℕ → ℕ
-termAt t = phaseOf sidereal (10 * t)
+termAt t = phaseOf tenTurns (10 * t)
 
 -- τ = longitude + Greenwich + the station's term, modulo 2^32
 unfoldable pub τOf : Orbit → ℕ → ℕ

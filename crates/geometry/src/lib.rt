@@ -58,8 +58,8 @@ pub struct Sight {
 // 2^60.
 const ONE_SQUARED: u64 = 1_152_921_504_606_846_976;
 
-// Ten times the ms in which the station turns once: the turn is no whole number of ms.
-const SIDEREAL: u32 = 861_640_905;
+// In ms: one turn of the station is no whole number of them.
+const TEN_TURNS: u32 = 861_640_905;
 
 // a∘q, half the minor axis.
 fn minor(w: Wholes) -> i64
@@ -217,12 +217,12 @@ pub fn hidden(t: &[u32], o: Orbit, at: u64) -> bool
     behind(o, a, depth(o, a))
 }
 
-// The station's term at an instant. What makes whole turns of ten times it goes first, so that the product fits 64 bits at any instant.
+// The station's term at an instant. Whole tens of turns are left out before the factor ten, so that the product fits 64 bits at any instant.
 fn term(at: u64) -> Angle
     ensures { λ r. ⌜ r .units ≡ termAt at ⌝ }
 {
-    let rest = at % SIDEREAL as u64;
-    kepler::phase(SIDEREAL, 10 * rest)
+    let rest = at % TEN_TURNS as u64;
+    kepler::phase(TEN_TURNS, 10 * rest)
 }
 
 // u, the station's zenith at an instant.

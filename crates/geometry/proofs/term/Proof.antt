@@ -1,4 +1,4 @@
--- `geometry::term` meets its contract: what was taken off before the factor ten is whole turns after it.
+-- `geometry::term` meets its contract: what is left out before the factor ten is whole turns, and ten times that still is.
 use mathlib.Core.Path.{_≡_, sym, ap, _∙_}
 use Prim.Native.Nat.{ℕ, _+_, _*_, _/_, _%_}
 use native.Mathlib.Nat.{mod-lt, mul-add, mul-assoc, mod-add-div', add-mul-mod-self-right}
@@ -6,12 +6,12 @@ use native.Mathlib.Omega.{arith}
 use lib.Dec.{lit<}
 use Rattle.angle.specs.Turn.{turn}
 use Rattle.kepler.specs.Kepler.{phaseOf}
-use Rattle.geometry.specs.Visible.{sidereal, termAt}
+use Rattle.geometry.specs.Visible.{tenTurns, termAt}
 use borrow.Author.Needs.{needs}
 use Rattle.geometry.proofs.term.Statement.{statement}
 use Rattle.geometry.proofs.term.Tie as tie
 
--- k times t lies in its turn where k times the rest of t does
+-- k times t is as far in its turn as k times what is left of t
 rest-alike : (p k t : ℕ) → phaseOf p (k * (t % p)) ≡ phaseOf p (k * t)
 unfolding phaseOf
 rest-alike p k t =
@@ -25,14 +25,14 @@ rem-rest : tie.Need-rem-rest
 rem-rest c = search needs
 
 mul-phase : tie.Need-mul-phase
-mul-phase c = omega (arith, mod-lt (c .args .at) {m = sidereal} (lit< tt))
+mul-phase c = omega (arith, mod-lt (c .args .at) {m = tenTurns} (lit< tt))
 
 phase-requires : tie.Need-phase-requires
 phase-requires c κs = search needs
 
 returns : tie.Need-returns
 unfolding termAt
-returns c = c .phase .ensures ∙ rest-alike sidereal 10 _
+returns c = c .phase .ensures ∙ rest-alike tenTurns 10 _
 
 pub term-spec : {M : Type 1} → statement M
 term-spec = tie.close (tie.spec cast-rest rem-rest mul-phase phase-requires returns)

@@ -23,10 +23,11 @@ pub fn scaled3(a: i64, b: i64, c: i64) -> i64 {
 
 /// floor((t mod p)·2^32 / p), the part of a turn made at instant t: M of
 /// document 01, Place in the orbit, and the station's term of document 02,
-/// wish 2, where both are tenfold.
+/// wish 2, with 10·t for t and ten turns for p.
 ///
 /// t mod p is below 2^32, so the shifted number fits in 64 bits, and the
-/// quotient is below 2^32. p is not 0: a period is at least 60,000 ms.
+/// quotient is below 2^32. p is not 0: a period is at least 60,000 ms, and ten
+/// turns of the station are 861,640,905.
 #[inline]
 pub fn part_of_turn(t: u64, p: u32) -> u32 {
     (((t % u64::from(p)) << 32) / u64::from(p)) as u32

@@ -1,16 +1,15 @@
--- Question 1 does not use the station, and so not its turn: hidden, its answer and what tells why are the same with any other. By unfolding.
-use mathlib.Core.Path.{_≡_, refl, ap, _∙_}
-use Prim.Native.Nat.{ℕ, _+_, _*_, _-_, _%_, _<_}
-use native.Mathlib.Nat.{mod-add-mod, add-mod-right}
+-- Question 1 does not use the station: hidden, its answer and what tells why are the same with any other, by unfolding. Another turn is another station, by arithmetic.
+use mathlib.Core.Path.{_≡_, refl}
+use Prim.Native.Nat.{ℕ, _*_, _<_}
 use native.Mathlib.Omega.{arith}
 use lib.Dec.{lit<}
-use Rattle.angle.specs.Turn.{turn, addOf}
+use Rattle.angle.specs.Turn.{turn, negateOf, addOf}
 use Rattle.kepler.proofs.Laws.{phase-lt}
 use Rattle.geometry.specs.declared.Station.{Station}
 use Rattle.geometry.specs.declared.Orbit.{Orbit}
 use Rattle.geometry.specs.Placed.{meanOf, anomalyOf, placeOf}
 use Rattle.geometry.specs.Hidden.{depthOf, behindOf, hiddenAt}
-use Rattle.geometry.specs.Visible.{tenTurns, termAt, τOf, answerAt}
+use Rattle.geometry.specs.Visible.{tenTurns, termAt, τBy, τOf, answerAt}
 use Rattle.geometry.specs.Sight.{sightAt}
 use Rattle.geometry.specs.Elsewhere.{seenFrom, turnedBy}
 
@@ -35,10 +34,10 @@ term-lt : (t : ℕ) → termAt t < turn
 unfolding termAt
 term-lt t = phase-lt tenTurns (10 * t) (lit< tt)
 
--- another turn is another meridian at each instant: with `term` for the station's own, τ is longitude + Greenwich + term
-pub turned-τ : (o : Orbit) (term t : ℕ) → τOf (seenFrom (turnedBy term t (o .station)) o) t ≡ addOf (o .station .meridian .units) term
+-- another turn is another meridian at each instant: so turned, τ is that of `term` in place of the station's own
+pub turned-τ : (o : Orbit) (term t : ℕ) → τOf (seenFrom (turnedBy term t (o .station)) o) t ≡ τBy o term
 unfolding τOf
 turned-τ o term t = further (o .station .meridian .units) (termAt t) (term-lt t)
   where
-    further : (m x : ℕ) → x < turn → addOf (addOf m (term + (turn - x))) x ≡ addOf m term
-    further m x below = mod-add-mod (m + (term + (turn - x))) turn x ∙ ap (λ (n : ℕ). n % turn) (omega (arith, below)) ∙ add-mod-right (m + term) turn
+    further : (m x : ℕ) → x < turn → addOf (addOf (addOf m term) (negateOf x)) x ≡ addOf m term
+    further m x below = omega (arith, below)

@@ -21,8 +21,12 @@ unfoldable pub termAt : ℕ → ℕ
 termAt t = phaseOf tenTurns (10 * t)
 
 -- τ = longitude + Greenwich + the station's term, modulo 2^32
+abbrev pub τBy : Orbit → ℕ → ℕ
+τBy o term = addOf (o .station .meridian .units) term
+
+-- at t
 unfoldable pub τOf : Orbit → ℕ → ℕ
-τOf o t = addOf (o .station .meridian .units) (termAt t)
+τOf o t = τBy o (termAt t)
 
 -- u = (cos lat∘cos τ, cos lat∘sin τ, sin lat)
 unfoldable pub zenithOf : Orbit → ℕ → List ℤ

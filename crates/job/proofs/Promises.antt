@@ -8,6 +8,7 @@
 --   Fits, InOrder, listed, Changes                         finder/specs/Fits.antt          recordBytes, parsedOf               interval/specs/Record.antt
 --   has, Says, Why                                         finder/specs/Flags.antt         FirstAsked, LastAsked               finder/specs/Asked.antt
 --   Alike                                                  halving/specs/Halving.antt      sightsIn                            job/specs/Outcome.antt
+--   answerAt, sightAt, τBy, τOf                            geometry/specs                  orbitWith                           job/specs/Table.antt
 --   seenFrom, turnedBy                                     geometry/specs/Elsewhere.antt
 use Prim.Native.Nat.{ℕ, suc, _+_, _*_, _≤_, _<_}
 use mathlib.Core.Path.{_≡_, refl, sym, ap, subst, fun-ext, _∙_}
@@ -36,7 +37,7 @@ use Rattle.elements.specs.Closest.{closestOf}
 use Rattle.elements.specs.Reading.{elementsOf, Returns}
 use Rattle.elements.specs.Accepted.{Accepted}
 use Rattle.geometry.specs.Hidden.{hiddenAt}
-use Rattle.geometry.specs.Visible.{upAt, visibleAt, answerAt}
+use Rattle.geometry.specs.Visible.{τBy, τOf, upAt, visibleAt, answerAt}
 use Rattle.geometry.specs.declared.Station.{Station}
 use Rattle.geometry.specs.declared.Orbit.{Orbit}
 use Rattle.geometry.specs.declared.Sight.{Sight}
@@ -96,13 +97,16 @@ module _ {s old : List ℕ} {o : Outcome} {new : List ℕ} (job : Job s old o ne
   good : {n k : ℕ} → o ≡ Listed n k → Good (windowOf s)
   good h = exactly.listed-good s (length old) (told h)
 
--- In what follows, of one job: its room in bytes, its window and step, the yes or no at each instant, what tells why there, and the list of intervals.
+-- In what follows, of one job: its room in bytes, its window and step, what is fixed of its orbit, the yes or no at each instant, what tells why there, and the list of intervals.
 module _ (s old : List ℕ) (o : Outcome) (new : List ℕ) (job : Job s old o new) where
   abbrev room : ℕ
   room = length old
 
   abbrev w : Window
   w = windowOf s
+
+  abbrev orbit : Orbit
+  orbit = orbitWith (elementsOf s)
 
   abbrev f : ℕ → Bool
   f = answersIn s
@@ -174,58 +178,45 @@ module _ (s old : List ℕ) (o : Outcome) (new : List ℕ) (job : Job s old o ne
   -- ---- 2. The answer at each instant is the rules', and the list is the one that the rules and the halving give
 
   -- question 1 asks whether the craft is hidden
-  pub asks-hidden : questionOf s ≡ 1 → (t : ℕ) → f t ≡ hiddenAt (orbitWith (elementsOf s)) t
+  pub asks-hidden : questionOf s ≡ 1 → (t : ℕ) → f t ≡ hiddenAt orbit t
   unfolding answerAt
   asks-hidden q t = rw q
 
   -- question 2 whether the planet is up and the craft not hidden
-  pub asks-visible : questionOf s ≡ 2 → (t : ℕ) → f t ≡ (upAt (orbitWith (elementsOf s)) t && not (hiddenAt (orbitWith (elementsOf s)) t))
+  pub asks-visible : questionOf s ≡ 2 → (t : ℕ) → f t ≡ (upAt orbit t && not (hiddenAt orbit t))
   unfolding answerAt visibleAt
   asks-visible q t = rw q
 
   -- what tells why has the hidden answer of the same instant
-  pub tells-hidden : (t : ℕ) → g t .hidden ≡ hiddenAt (orbitWith (elementsOf s)) t
+  pub tells-hidden : (t : ℕ) → g t .hidden ≡ hiddenAt orbit t
   unfolding sightAt
   tells-hidden t = refl
 
   -- and the up answer, for question 2
-  pub tells-up : questionOf s ≡ 2 → (t : ℕ) → g t .up ≡ upAt (orbitWith (elementsOf s)) t
+  pub tells-up : questionOf s ≡ 2 → (t : ℕ) → g t .up ≡ upAt orbit t
   unfolding sightAt
   tells-up q t = rw q
 
   -- question 1 uses only hidden: it tells no up
   pub tells-no-up : questionOf s ≡ 1 → (t : ℕ) → g t .up ≡ false
-  tells-no-up q t = told-by.no-up (orbitWith (elementsOf s)) (questionOf s) t q
+  tells-no-up q t = told-by.no-up orbit (questionOf s) t q
 
   -- for the proofs below: how g tells of f
   tells : Tells (questionOf s) f g
   tells =
       record {
-        same = told-by.same-answer (orbitWith (elementsOf s)) (questionOf s);
-        hidden = λ q t. told-by.asks-hidden (orbitWith (elementsOf s)) (questionOf s) t q;
+        same = told-by.same-answer orbit (questionOf s);
+        hidden = λ q t. told-by.asks-hidden orbit (questionOf s) t q;
         no-up = tells-no-up;
       }
 
-  -- the orbit, and the same list byte for byte from the same instants with another station in it, at each instant another
-  abbrev orbit : Orbit
-  orbit = orbitWith (elementsOf s)
+  -- the hidden answer does not use the station, and so not its turn
+  pub hidden-anywhere : (other : Station) (t : ℕ) → hiddenAt (seenFrom other orbit) t ≡ hiddenAt orbit t
+  hidden-anywhere = elsewhere.hidden-anywhere orbit
 
-  abbrev SameFrom : (ℕ → Station) → Type 0
-  SameFrom other =
-      let f′ : ℕ → Bool = λ t. answerAt (seenFrom (other t) orbit) (questionOf s) t in
-      let g′ : ℕ → Sight = λ t. sightAt (seenFrom (other t) orbit) (questionOf s) t in
-      (recordsOf g′ w (listOf f′ w) ≡ recordsOf g w l) × (instantsOf f′ w ≡ instantsOf f w)
-
-  -- to question 1 no station matters
-  pub station-unused : questionOf s ≡ 1 → (other : ℕ → Station) → SameFrom other
-  station-unused q other =
-      let f-same = fun-ext (λ (t : ℕ). elsewhere.answer-anywhere orbit (other t) t q) in
-      let g-same = fun-ext (λ (t : ℕ). elsewhere.sight-anywhere orbit (other t) t q) in
-      rw (f-same, g-same) (refl, refl)
-
-  -- and so its turn does not: whatever `term` is at each instant in place of the station's own
-  pub turn-unused : questionOf s ≡ 1 → (term : ℕ → ℕ) → SameFrom (λ t. turnedBy (term t) t (orbit .station))
-  turn-unused q term = station-unused q (λ t. turnedBy (term t) t (orbit .station))
+  -- another turn of the station is another station at each instant: so turned, τ at t is that of `term` in place of the station's own term
+  pub turned-is : (term t : ℕ) → τOf (seenFrom (turnedBy term t (orbit .station)) orbit) t ≡ τBy orbit term
+  turned-is = elsewhere.turned-τ orbit
 
   -- n intervals were listed, and k instants asked
   module _ {n k : ℕ} (h : o ≡ Listed n k) where
@@ -266,6 +257,25 @@ module _ (s old : List ℕ) (o : Outcome) (new : List ℕ) (job : Job s old o ne
     -- so the records' flags are made of what is told at the instants asked, and no others
     pub only-told : (g′ : ℕ → Sight) → Alike g g′ (instantsOf f w) → recordsOf g′ w l ≡ recordsOf g w l
     only-told g′ alike = records-alike g g′ w (instantsOf f w) alike l (list-asked w (good job h) f)
+
+    -- what was written and counted is by the answers, and by what tells why, with another station, which may be another one at each instant
+    abbrev ListedFrom : (ℕ → Station) → Type 0
+    ListedFrom other =
+        let f′ : ℕ → Bool = λ t. answerAt (seenFrom (other t) orbit) (questionOf s) t in
+        let g′ : ℕ → Sight = λ t. sightAt (seenFrom (other t) orbit) (questionOf s) t in
+        (new ≡ recordsOf g′ w (listOf f′ w) ++ drop (24 * n) old) × (k ≡ length (instantsOf f′ w))
+
+    -- to question 1 it is so with any: the list does not use the station
+    pub station-unused : questionOf s ≡ 1 → (other : ℕ → Station) → ListedFrom other
+    unfolding foundOf
+    station-unused q other =
+        let f-same = fun-ext (λ (t : ℕ). elsewhere.answer-anywhere orbit (other t) t q) in
+        let g-same = fun-ext (λ (t : ℕ). elsewhere.sight-anywhere orbit (other t) t q) in
+        rw (f-same, g-same) (list-is, exactly.listed-asked s room (told job h))
+
+    -- nor its turn: with any other, whatever its term is at each instant, it is the same list
+    pub turn-unused : questionOf s ≡ 1 → (term : ℕ → ℕ) → ListedFrom (λ t. turnedBy (term t) t (orbit .station))
+    turn-unused q term = station-unused q (λ t. turnedBy (term t) t (orbit .station))
 
     -- ---- 3. Whatever the answers are
 

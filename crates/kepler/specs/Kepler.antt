@@ -14,7 +14,7 @@ use Rattle.halving.specs.Halving.{halve}
 abbrev pub Period : ℕ → Type 0
 Period p = 0 < p
 
--- M = floor((t mod p)·2^32/p), of t in a turn that takes p; the station's term too (geometry, `termAt`)
+-- M = floor((t mod p)·2^32/p): how far t lies in a turn that takes p, the craft's or the station's
 unfoldable pub phaseOf : ℕ → ℕ → ℕ
 phaseOf p t = t % p * turn / p
 

@@ -31,6 +31,8 @@ pub fn job7_in(t0: u64, t1: u64, step: u32) -> Job {
     }
 }
 
+/// Document 02, wish 2: one turn of the station, ms.
+pub const STATION_TURN: f64 = 86_164_090.5;
 /// A byte no list begins with, to see what is kept.
 pub const KEPT: u8 = 0xA5;
 /// Room for the longest list.

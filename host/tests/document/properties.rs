@@ -199,7 +199,7 @@ fn by_floats(fields: &[f64; 13], t: u64) -> (f64, f64) {
     let d = dot(place, E);
     let off = (dot(place, place) - d * d).max(0.0).sqrt();
     let shadow = ((R - off) / a).min(-d / a);
-    let turned = (t as f64 / 86_164_090.5).fract() * turn;
+    let turned = (t as f64 / STATION_TURN).fract() * turn;
     let tau = rad(11) + rad(12) + turned;
     let u = about_z(about_y([1.0, 0.0, 0.0], rad(10)), tau);
     (shadow, -dot(u, E) - rad(13).sin())

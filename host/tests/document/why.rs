@@ -12,11 +12,11 @@ const SHADOW: [u64; 2] = [3_000_000, 4_200_000];
 const BEFORE: u64 = SHADOW[0] - 1;
 const AFTER: u64 = SHADOW[1] + 1;
 
-/// Job 7 asked for the visible, where the station's turn is so many degrees at the instant, 360 degrees in 86,164,090.5 ms.
+/// Job 7 asked for the visible, where the station has turned by so many degrees at the instant.
 fn visible(degrees: f64, t: f64) -> Job {
     let mut job = job7();
     job.question = 2;
-    job.fields[11] = degrees - t / 86_164_090.5 * 360.0;
+    job.fields[11] = degrees - t / STATION_TURN * 360.0;
     job
 }
 

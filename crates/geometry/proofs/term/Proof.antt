@@ -1,9 +1,7 @@
 -- `geometry::term` meets its contract: what is left out before the factor ten is whole turns, and ten times that still is.
 use mathlib.Core.Path.{_≡_, sym, ap, _∙_}
 use Prim.Native.Nat.{ℕ, _+_, _*_, _/_, _%_}
-use native.Mathlib.Nat.{mod-lt, mul-add, mul-assoc, mod-add-div', add-mul-mod-self-right}
-use native.Mathlib.Omega.{arith}
-use lib.Dec.{lit<}
+use native.Mathlib.Nat.{mul-add, mul-assoc, mod-add-div', add-mul-mod-self-right}
 use Rattle.angle.specs.Turn.{turn}
 use Rattle.kepler.specs.Kepler.{phaseOf}
 use Rattle.geometry.specs.Visible.{tenTurns, termAt}
@@ -25,7 +23,7 @@ rem-rest : tie.Need-rem-rest
 rem-rest c = search needs
 
 mul-phase : tie.Need-mul-phase
-mul-phase c = omega (arith, mod-lt (c .args .at) {m = tenTurns} (lit< tt))
+mul-phase c = search needs
 
 phase-requires : tie.Need-phase-requires
 phase-requires c κs = search needs

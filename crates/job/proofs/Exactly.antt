@@ -149,7 +149,7 @@ module _ (s : List ℕ) (room : ℕ) where
 
   -- ---- a list
 
-  listed-first : (n asked : ℕ) → outcomeOf s room ≡ Listed n asked → first (tableOf s room) ≡ verdict.Passed
+  pub listed-first : (n asked : ℕ) → outcomeOf s room ≡ Listed n asked → first (tableOf s room) ≡ verdict.Passed
   unfolding outcomeOf
   listed-first n asked h = listed-from (answersIn s) (windowOf s) (first (tableOf s room)) n asked h
 

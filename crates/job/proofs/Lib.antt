@@ -4,6 +4,7 @@ pub mod Cases
 pub mod Exactly
 pub mod Parts
 pub mod Roomy
+pub mod Admits
 pub mod Written
 pub mod Promises
 pub mod Only

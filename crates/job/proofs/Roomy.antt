@@ -24,7 +24,7 @@ use Rattle.job.proofs.Exactly.{refused-exactly}
 use Rattle.job.proofs.Cases.{before-parts, window-parts, table-parts}
 
 -- a window of at most 4,096 steps has room
-row-passes : (w : Window) (room : ℕ) → stepsOf w ≤ mostSteps → roomForAny ≤ room → roomRow w room ≡ verdict.Passed
+pub row-passes : (w : Window) (room : ℕ) → stepsOf w ≤ mostSteps → roomForAny ≤ room → roomRow w room ≡ verdict.Passed
 unfolding noRoom roomOf
 row-passes w room few enough = ap (λ (t : Bool). when t refusal.Room) (le-ltb room (roomOf w) (omega arith))
 

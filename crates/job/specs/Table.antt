@@ -75,6 +75,12 @@ tableOf s room =
     let w = windowOf s in
     recordRows s ++ (windowRow w ∷ stepRow w ∷ questionRow (questionOf s) ∷ roomRow w room ∷ keplerRow (elementsOf s) w ∷ [])
 
+-- the same but for 9, which is given only where a list is written (document 02, wish 3)
+unfoldable pub tableButRoom : List ℕ → List Verdict
+tableButRoom s =
+    let w = windowOf s in
+    recordRows s ++ (windowRow w ∷ stepRow w ∷ questionRow (questionOf s) ∷ keplerRow (elementsOf s) w ∷ [])
+
 -- ---- parts of it, for the contracts of private functions
 
 -- 6 to 9

@@ -10,6 +10,7 @@ ghost use Rattle.finder.specs.Records.{HasRoom};
 ghost use Rattle.job.specs.Table.{windowOf, badWindow, badStep, badQuestion, noRoom, windowRow, stepRow, questionRow, roomRow, rowsBeforeSearch, rowsFromSearch, rowsFromWindow};
 ghost use Rattle.job.specs.Outcome.{intervalsOf, outcomeBy, recordsBy, outcomeOf, listAfter};
 ghost use Rattle.job.specs.Reply.{jobOf, closingOf, replyOf};
+ghost use Rattle.job.specs.Admission.{admissionFrom, admissionOf};
 use elements::reading::Elements;
 use elements::reading::Reading;
 use finder::Window;
@@ -25,6 +26,12 @@ pub enum Outcome {
     Refused(Refusal),
 }
 
+// The window of a record that every row but 9 lets through, or why it is turned away.
+pub enum Admission {
+    Admitted(Window),
+    TurnedAway(Refusal),
+}
+
 // The last end of a window, in ms: 31 days.
 const LAST_END: u64 = 2_678_400_000;
 
@@ -32,6 +39,9 @@ const LAST_END: u64 = 2_678_400_000;
 const LONGEST_STEP: u64 = 1_048_576;
 
 const MOST_STEPS: u64 = 4096;
+
+// Room for the list of any window that rows 6 and 7 let through: 2,049 intervals.
+const ROOM_FOR_ANY: usize = 49176;
 
 // A record's job number, window and step.
 fn window(s: &[u8]) -> Window
@@ -159,10 +169,32 @@ pub fn list(s: &[u8], list: &mut [u8]) -> Outcome
     }
 }
 
+// ---- whether a record is accepted
+
+// Rows 6 to 8, and the window. With room for any list row 9 passes, and Kepler's search always settles, so nothing is asked for row 10.
+fn admit_window(w: Window, question: u32) -> Admission
+    ensures { λ r. ⌜ r ≡ admissionFrom (windowRow w then stepRow w then questionRow question) w ⌝ }
+{
+    match before_search(w, question, ROOM_FOR_ANY) {
+        Verdict::Refused(r) => Admission::TurnedAway(r),
+        Verdict::Passed => Admission::Admitted(w),
+    }
+}
+
+// A record's window, where every row but 9 lets it through.
+pub fn admit(s: &[u8]) -> Admission
+    ensures { λ r. ⌜ r ≡ admissionOf (now (s .entry)) ⌝ }
+{
+    match elements::reading::read(s) {
+        Reading::Refused(r) => Admission::TurnedAway(r),
+        Reading::Read(_) => admit_window(window(s), words::read4(s, 132)),
+    }
+}
+
 // ---- what the program writes for a record
 
 // The job number of a whole record; any other piece has none.
-fn job_number(s: &[u8]) -> u32
+pub fn job_number(s: &[u8]) -> u32
     ensures { λ r. ⌜ r ≡ jobOf (now (s .entry)) ⌝ }
 {
     if s.len() == 136 {
@@ -186,7 +218,7 @@ fn intervals(o: Outcome) -> usize
 }
 
 // The record behind a job's intervals.
-fn closing(job: u32, o: Outcome) -> Interval
+pub fn closing(job: u32, o: Outcome) -> Interval
     ensures { λ r. ⌜ r ≡ closingOf job o ⌝ }
 {
     match o {

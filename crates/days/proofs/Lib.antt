@@ -1,0 +1,6 @@
+-- The laws of the totals by day.
+pub mod Counting
+pub mod Orderly
+pub mod Touched
+pub mod Records
+pub mod Updates

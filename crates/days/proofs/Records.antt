@@ -1,0 +1,41 @@
+-- The records of several days: how long they are, one stretch of days behind the other, and where the same is counted the same bytes.
+use Prim.Native.Nat.{ℕ, zero, suc, _+_, _*_, _≤_, _<_}
+use mathlib.Core.Path.{_≡_, refl, sym, ap, _∙_}
+use mathlib.Core.List.{List, [], _∷_, _++_, append-assoc, append-nil}
+use native.Mathlib.Omega.{arith}
+use lib.ListN.{length, length-append}
+use Rattle.words.proofs.Laws.{length-bytes}
+use Rattle.finder.specs.Spans.{Span}
+use Rattle.days.specs.Counts.{instantsIn, touching}
+use Rattle.days.specs.Summary.{dayBytes, dayRecord, recordsFrom}
+
+pub length-day : (d intervals instants : ℕ) → length (dayBytes d intervals instants) ≡ 16
+unfolding dayBytes
+length-day d intervals instants = simp (length-append, length-bytes)
+
+module _ (l : List Span) where
+  pub length-days : (d n : ℕ) → length (recordsFrom l d n) ≡ 16 * n
+  unfolding recordsFrom dayRecord
+  length-days d zero = refl
+  length-days d (suc n) = length-append (dayRecord l d) (recordsFrom l (suc d) n) ∙ omega (arith, length-day d (touching l d) (instantsIn l d), length-days (suc d) n)
+
+  pub days-add : (d m n : ℕ) → recordsFrom l d (m + n) ≡ recordsFrom l d m ++ recordsFrom l (d + m) n
+  unfolding recordsFrom
+  days-add d zero n = let e : d + 0 ≡ d = omega arith in let z : 0 + n ≡ n = omega arith in rw (e, z) refl
+  days-add d (suc m) n =
+      let more : suc m + n ≡ suc (m + n) = omega arith in
+      let e : suc d + m ≡ d + suc m = omega arith in
+      rw more (ap (λ (r : List ℕ). dayRecord l d ++ r) (days-add (suc d) m n) ∙ sym (append-assoc (dayRecord l d) (recordsFrom l (suc d) m) (recordsFrom l (suc d + m) n)) ∙ rw e refl)
+
+  -- one day
+  pub day-one : (d : ℕ) → recordsFrom l d 1 ≡ dayRecord l d
+  unfolding recordsFrom
+  day-one d = append-nil (dayRecord l d)
+
+-- two lists of which the same is counted on these days
+pub days-same : (l m : List Span) (d n : ℕ) → ((j : ℕ) → d ≤ j → j < d + n → (touching l j ≡ touching m j) × (instantsIn l j ≡ instantsIn m j)) → recordsFrom l d n ≡ recordsFrom m d n
+unfolding recordsFrom dayRecord
+days-same l m d zero same = refl
+days-same l m d (suc n) same =
+    let here = same d (omega arith) (omega arith) in
+    rw (here .0, here .1) (ap (λ (r : List ℕ). dayBytes d (touching m d) (instantsIn m d) ++ r) (days-same l m (suc d) n (λ j p q. same j (omega arith) (omega arith))))

@@ -33,10 +33,10 @@ module _ (s : Span) (forward : s .first ≤ s .last) where
   shared a n = min (s .last + 1) (a + n) - max (s .first) a
 
   within-bit : (a n : ℕ) (x y : Bool) → leb (s .first) a ≡ x → leb a (s .last) ≡ y → cond (x && y) 1 0 + shared (suc a) n ≡ shared a (suc n)
-  within-bit a n true true p q = omega (arith, leb-true _ _ p, leb-true _ _ q)
-  within-bit a n true false p q = omega (arith, leb-true _ _ p, leb-false _ _ q)
-  within-bit a n false true p q = omega (arith, leb-false _ _ p, leb-true _ _ q)
-  within-bit a n false false p q = omega (arith, leb-false _ _ p, leb-false _ _ q)
+  within-bit a n true true p q = omega (arith, leb-true (s .first) a p, leb-true a (s .last) q)
+  within-bit a n true false p q = omega (arith, leb-true (s .first) a p, leb-false a (s .last) q)
+  within-bit a n false true p q = omega (arith, leb-false (s .first) a p, leb-true a (s .last) q)
+  within-bit a n false false p q = omega (arith, leb-false (s .first) a p, leb-false a (s .last) q)
 
   pub count-within : (a n : ℕ) → countOf (within s) a n ≡ shared a n
   unfolding countOf

@@ -11,9 +11,17 @@ use Rattle.finder.specs.Spans.{Span}
 use Rattle.finder.specs.Fits.{InOrder, within, listed}
 use Rattle.days.specs.Given.{badSpan, badSpans, nextFrom}
 
+neither-of : (a b : Bool) → (a || b) ≡ false → (a ≡ false) × (b ≡ false)
+neither-of true b h = (h, absurd (true≢false h))
+neither-of false b h = (refl, h)
+
 neither : {a b : Bool} → (a || b) ≡ false → (a ≡ false) × (b ≡ false)
-neither {true} {b} h = (h, absurd (true≢false h))
-neither {false} {b} h = (refl, h)
+neither {a} {b} = neither-of a b
+
+-- both of two tests that hold together
+both : (a b : Bool) → (a && b) ≡ true → b ≡ true
+both true b h = h
+both false b h = absurd (true≢false (sym h))
 
 -- ---- one interval
 
@@ -70,12 +78,13 @@ module _ (high : ℕ) where
   pub listed-before : (low : ℕ) (l : List Span) (t : ℕ) → badSpans low high l ≡ false → listed l t ≡ true → t + 2 ≤ nextFrom low l
   unfolding badSpans nextFrom listed
   listed-before low [] t h on = absurd (true≢false (sym on))
-  listed-before low (s ∷ l) t h on = by (leb (s .first) t) (leb t (s .last)) refl refl
+  listed-before low (s ∷ l) t h on =
+      let rest = neither-of (badSpan low high s) (badSpans (s .last + 2) high l) h .1 in
+      by (within s t) refl (next-far (s .last + 2) l rest .0) (listed-before (s .last + 2) l t rest)
     where
-      by : (x y : Bool) → leb (s .first) t ≡ x → leb t (s .last) ≡ y → t + 2 ≤ nextFrom (s .last + 2) l
-      by x true p q = let r = next-far (s .last + 2) l (neither h .1) in omega (arith, leb-true t (s .last) q, r .0)
-      by true false p q = listed-before (s .last + 2) l t (neither h .1) (rw (p, q) at on)
-      by false false p q = listed-before (s .last + 2) l t (neither h .1) (rw (p, q) at on)
+      by : (x : Bool) → within s t ≡ x → (s .last + 2) + 2 * length l ≤ nextFrom (s .last + 2) l → (listed l t ≡ true → t + 2 ≤ nextFrom (s .last + 2) l) → t + 2 ≤ nextFrom (s .last + 2) l
+      by true p far later = omega (arith, leb-true t (s .last) (both (leb (s .first) t) (leb t (s .last)) p), far)
+      by false p far later = later (rw p at on)
 
   -- so no instant lies both in one of them and in an interval behind
   pub apart : (low : ℕ) (l : List Span) (s : Span) (t : ℕ) → badSpans low high l ≡ false → badSpan (nextFrom low l) high s ≡ false → listed l t ≡ true → within s t ≡ false

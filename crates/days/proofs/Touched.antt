@@ -52,7 +52,7 @@ module _ (low high : ℕ) (l : List Span) (s : Span) (before : badSpans low high
   pub stay : instantsUnder s d ≡ 0 → (touching (l ++ s ∷ []) d ≡ touching l d) × (instantsIn (l ++ s ∷ []) d ≡ instantsIn l d)
   stay none =
       let no : touches s d ≡ false = le-ltb 0 (instantsUnder s d) (omega (arith, none)) in
-      let bit : cond (touches s d) 1 0 ≡ 0 = rw no in
+      let bit : _≡_ {A = ℕ} (cond (touches s d) 1 0) 0 = rw no in
       (omega (arith, touching-more l s d, bit), omega (arith, instants-more, none))
 
 -- ---- there are not many

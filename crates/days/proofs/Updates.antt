@@ -83,8 +83,9 @@ module _ (w : Window) (l : List Span) (lent : List ℕ) (stands : take (16 * day
     day-stands =
         let n : daysOf w ≡ ahead + suc (dayOf (w .t1) - d) = omega arith in
         let here : dayOf (w .t0) + ahead ≡ d = omega arith in
+        let parts : summaryOf w l ≡ earlier ++ (dayRecord l d ++ later) = rw (n, days-add l (dayOf (w .t0)) ahead (suc (dayOf (w .t1) - d)), here) refl in
         stands-first
-        ∙ ap (λ (x : List ℕ). x ++ drop (16 * daysOf w) lent) (ap (recordsFrom l (dayOf (w .t0))) n ∙ days-add l (dayOf (w .t0)) ahead (suc (dayOf (w .t1) - d)) ∙ rw here refl)
+        ∙ ap (λ (x : List ℕ). x ++ drop (16 * daysOf w) lent) parts
         ∙ append-assoc earlier (dayRecord l d ++ later) (drop (16 * daysOf w) lent)
         ∙ ap (λ (x : List ℕ). earlier ++ x) (append-assoc (dayRecord l d) later (drop (16 * daysOf w) lent))
 

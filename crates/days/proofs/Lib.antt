@@ -4,3 +4,4 @@ pub mod Orderly
 pub mod Touched
 pub mod Records
 pub mod Updates
+pub mod Adding

@@ -4,7 +4,10 @@ use mathlib.Core.Path.{_≡_, refl, sym, ap, _∙_}
 use mathlib.Core.List.{List, [], _∷_, _++_, append-assoc, append-nil}
 use native.Mathlib.Omega.{arith}
 use lib.ListN.{length, length-append}
+use lib.Seq.{sets}
+use Rattle.words.specs.Little.{putOf}
 use Rattle.words.proofs.Laws.{length-bytes}
+use Rattle.words.proofs.Stores.{sets-append}
 use Rattle.finder.specs.Spans.{Span}
 use Rattle.days.specs.Counts.{instantsIn, touching}
 use Rattle.days.specs.Summary.{dayBytes, dayRecord, recordsFrom}
@@ -12,6 +15,11 @@ use Rattle.days.specs.Summary.{dayBytes, dayRecord, recordsFrom}
 pub length-day : (d intervals instants : ℕ) → length (dayBytes d intervals instants) ≡ 16
 unfolding dayBytes
 length-day d intervals instants = simp (length-append, length-bytes)
+
+-- three numbers put one behind the other are a day's record
+pub day-puts : (l : List ℕ) {l₁ l₂ l₃ : List ℕ} (at d intervals instants : ℕ) → l₁ ≡ putOf 4 l at d → l₂ ≡ putOf 4 l₁ (at + 4) intervals → l₃ ≡ putOf 8 l₂ (at + 8) instants → l₃ ≡ sets l at (dayBytes d intervals instants)
+unfolding dayBytes putOf
+day-puts l at d intervals instants p q r = rw (r, q, p) (simp (sets-append, length-append, length-bytes))
 
 module _ (l : List Span) where
   pub length-days : (d n : ℕ) → length (recordsFrom l d n) ≡ 16 * n

@@ -153,7 +153,7 @@ module _ (w : Window) (l : List Span) (s : Span) (lent : List ℕ) (a : Awaits w
     behind : first-at + length (recordsFrom longer (dayOf (s .first)) (d - dayOf (s .first))) ≡ 16 * (d - dayOf (w .t0))
     behind = omega (arith, length-days longer (dayOf (s .first)) (d - dayOf (s .first)), days-lie .0)
 
-    fits : 16 * (d - dayOf (w .t0)) + 16 ≤ length lent
+    pub fits : 16 * (d - dayOf (w .t0)) + 16 ≤ length lent
     unfolding daysBetween
     fits = omega (arith, stands-room w l lent (a .stands), days-lie .2)
 

@@ -21,6 +21,7 @@ pub record HasRoom (w : Window) (lent : List ℕ) : Type 0 where
 
 -- an interval that touches day d, in a month
 pub record Under (s : Span) (d : ℕ) : Type 0 where
+  pub forward : s .first ≤ s .last
   pub from : dayOf (s .first) ≤ d
   pub to : d ≤ dayOf (s .last)
   pub early : s .last ≤ lastEnd

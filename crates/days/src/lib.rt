@@ -168,7 +168,10 @@ fn add(w: Window, out: &mut [u8], first: u64, last: u64)
 fn bad_span(low: u64, high: u64, first: u64, last: u64) -> bool
     ensures { λ r. ⌜ r ≡ badSpan low high (span first last) ⌝ }
 {
-    last < first || first < low || high < last
+    if last < first {
+        return true;
+    }
+    first < low || high < last
 }
 
 // The list is gone through once: each interval is looked at, and added to the summary in `own`.

@@ -5,3 +5,4 @@ pub mod Touched
 pub mod Records
 pub mod Updates
 pub mod Adding
+pub mod Sames

@@ -8,9 +8,13 @@ use lib.Seq.{sets}
 use Rattle.words.specs.Little.{putOf}
 use Rattle.words.proofs.Laws.{length-bytes}
 use Rattle.words.proofs.Stores.{sets-append}
+use native.Mathlib.Nat.{zero-add}
 use Rattle.finder.specs.Spans.{Span}
+use Rattle.finder.specs.Fits.{listed}
+use Rattle.days.specs.Days.{dayLength, startOf}
 use Rattle.days.specs.Counts.{instantsIn, touching}
 use Rattle.days.specs.Summary.{dayBytes, dayRecord, recordsFrom}
+use Rattle.days.proofs.Counting.{count-none}
 
 pub length-day : (d intervals instants : ℕ) → length (dayBytes d intervals instants) ≡ 16
 unfolding dayBytes
@@ -47,3 +51,18 @@ days-same l m d zero same = refl
 days-same l m d (suc n) same =
     let here = same d (omega arith) (omega arith) in
     rw (here .0, here .1) (ap (λ (r : List ℕ). dayBytes d (touching m d) (instantsIn m d) ++ r) (days-same l m (suc d) n (λ j p q. same j (omega arith) (omega arith))))
+
+-- ---- no interval
+
+-- nothing is counted
+pub none-counted : (d : ℕ) → (touching [] d ≡ 0) × (instantsIn [] d ≡ 0)
+unfolding touching instantsIn listed
+none-counted d = (refl, count-none (listed []) (startOf d) dayLength (λ t. refl))
+
+-- one day more of the summary of none
+pub none-more : (old : List ℕ) (start i : ℕ) {out out′ : List ℕ} → out ≡ sets old 0 (recordsFrom [] start i) → out′ ≡ sets out (16 * i) (dayBytes (start + i) 0 0) → out′ ≡ sets old 0 (recordsFrom [] start (i + 1))
+unfolding dayRecord
+none-more old start i so put =
+    let xs = recordsFrom [] start i in
+    let more : recordsFrom [] start (i + 1) ≡ xs ++ dayRecord [] (start + i) = days-add [] start i 1 ∙ ap (λ (r : List ℕ). xs ++ r) (day-one [] (start + i)) in
+    put ∙ rw (so, more, none-counted (start + i) .0, none-counted (start + i) .1, sets-append xs (dayBytes (start + i) 0 0) old 0, zero-add (length xs), length-days [] start i) refl

@@ -1,19 +1,20 @@
+-- `days::bad_span` meets its contract: the definition's three tests.
+use borrow.Author.Tests.{lt-ltb, le-ltb}
+use Rattle.days.specs.Given.{badSpan}
 use Rattle.days.proofs.bad_span.Statement.{statement}
 use Rattle.days.proofs.bad_span.Tie as tie
-use Rattle.days.proofs.bad_span.Reads as reads
-use Rattle.days.proofs.bad_span.Lts as lts
 
--- src/lib.rt:172:9
 returns : tie.Need-returns
-returns c = ?
+unfolding badSpan
+returns c = rw (lt-ltb _ _ (c .if1 .taken))
 
--- src/lib.rt:168:1
 returns-2 : tie.Need-returns-2
-returns-2 c = ?
+unfolding badSpan
+returns-2 c = rw (le-ltb _ _ (c .before .if1 .left), lt-ltb _ _ (c .if2 .taken))
 
--- src/lib.rt:168:1
 returns-3 : tie.Need-returns-3
-returns-3 c = ?
+unfolding badSpan
+returns-3 c = rw (le-ltb _ _ (c .before .if1 .left), le-ltb _ _ (c .if2 .left))
 
 pub bad-span-spec : {M : Type 1} → statement M
 bad-span-spec = tie.close (tie.spec returns returns-2 returns-3)

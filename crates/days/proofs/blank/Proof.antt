@@ -1,59 +1,70 @@
+-- `days::blank` meets its contract. Whenever the loop's test is reached, the records of i days stand in `out`.
+use Prim.Native.Nat.{_+_, _-_, _≤_}
+use mathlib.Core.Path.{_≡_, refl, ap, _∙_}
+use mathlib.Core.List.{[]}
+use native.Mathlib.Omega.{arith}
+use lib.ListN.{length}
+use lib.Seq.{sets, length-sets}
+use Rattle.days.specs.Days.{dayOf, daysBetween}
+use Rattle.days.specs.Summary.{recordsFrom, summaryOf}
+use Rattle.days.proofs.Records.{none-more}
+use borrow.Author.Needs.{needs}
 use Rattle.days.proofs.blank.Statement.{statement}
 use Rattle.days.proofs.blank.Tie as tie
-use Rattle.days.proofs.blank.Reads as reads
-use Rattle.days.proofs.blank.Lts as lts
-use Rattle.days.proofs.days.Reads as days-reads
-use Rattle.days.proofs.put_day.Reads as put-day-reads
 
 abbrev Inv-loop : tie.InvT-loop
-Inv-loop out₀ start n i₀ out i = ?
+Inv-loop out₀ start n i₀ out i = (length out ≡ length out₀) × (i ≤ n) × (out ≡ sets out₀ 0 (recordsFrom [] start i))
 
 abbrev μ-loop : tie.MeasureT-loop
-μ-loop out₀ start n i₀ out i = ?
+μ-loop out₀ start n i₀ out i = n - i
 
--- src/lib.rt:140:9
 days-requires : tie.Need-days-requires Inv-loop μ-loop
-days-requires c κs = ?
+days-requires c κs = search needs
 
--- src/lib.rt:142:5
 loop-holds : tie.Need-loop-holds Inv-loop μ-loop
-loop-holds c = ?
+unfolding recordsFrom
+loop-holds c = (refl, omega arith, refl)
 
--- src/lib.rt:143:22
 mul-put-day : tie.Need-mul-put-day Inv-loop μ-loop
-mul-put-day c = ?
+unfolding daysBetween dayOf
+mul-put-day c = search needs
 
--- src/lib.rt:143:35
 add-put-day : tie.Need-add-put-day Inv-loop μ-loop
-add-put-day c = ?
+unfolding daysBetween dayOf
+add-put-day c = search needs
 
--- src/lib.rt:143:34
 cast-put-day : tie.Need-cast-put-day Inv-loop μ-loop
-cast-put-day c = ?
+unfolding daysBetween dayOf
+cast-put-day c = search needs
 
--- src/lib.rt:143:9
 put-day-requires : tie.Need-put-day-requires Inv-loop μ-loop
-put-day-requires c κs = ?
+put-day-requires c κs =
+    let head = c .before .before .before .before .before in
+    let room = head .before .before .before .before .pre .room in
+    let n = head .before .days .ensures in
+    omega (arith, room, n)
 
--- src/lib.rt:144:9
 add-i : tie.Need-add-i Inv-loop μ-loop
-add-i c = ?
+add-i c = search needs
 
--- src/lib.rt:142:5
 loop-less : tie.Need-loop-less Inv-loop μ-loop
-loop-less c = ?
+loop-less c = search needs
 
--- src/lib.rt:142:5
 loop-again : tie.Need-loop-again Inv-loop μ-loop
-loop-again c = ?
+loop-again c =
+    let put = c .before .before in
+    let head = put .before .before .before in
+    (search needs, search needs, none-more _ _ _ (head .loop .inv .2) (put .put-day .ensures))
 
--- src/lib.rt:135:1
 same-length : tie.Need-same-length Inv-loop μ-loop
-same-length c = ?
+same-length c = search needs
 
--- src/lib.rt:135:1
 returns : tie.Need-returns Inv-loop μ-loop
-returns c = ?
+unfolding summaryOf dayOf
+returns c =
+    let head = c .before in
+    let all : head .loop .i ≡ head .before .days .result = omega arith in
+    rw (all, head .before .days .ensures) at (head .loop .inv .2)
 
 pub blank-spec : {M : Type 1} → statement M
 blank-spec =

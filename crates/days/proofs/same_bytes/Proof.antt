@@ -1,49 +1,53 @@
+-- `days::same_bytes` meets its contract. Whenever the loop's test is reached, what is left of both is the same exactly if the whole is.
+use Prim.Native.Nat.{_+_, _-_, _≤_}
+use mathlib.Core.Path.{_≡_, refl, sym, _∙_}
+use native.Mathlib.Omega.{arith}
+use borrow.Author.Tests.{eq-eqb, ne-eqb}
+use lib.ListN.{length, drop}
+use Rattle.days.specs.Given.{same}
+use Rattle.days.proofs.Sames.{same-long, same-next, same-end}
+use borrow.Author.Needs.{needs}
 use Rattle.days.proofs.same_bytes.Statement.{statement}
 use Rattle.days.proofs.same_bytes.Tie as tie
-use Rattle.days.proofs.same_bytes.Reads as reads
-use Rattle.days.proofs.same_bytes.Lts as lts
 
 abbrev Inv-loop : tie.InvT-loop
-Inv-loop a b i₀ i = ?
+Inv-loop a b i₀ i = (length a ≡ length b) × (i ≤ length a) × (same (drop i a) (drop i b) ≡ same a b)
 
 abbrev μ-loop : tie.MeasureT-loop
-μ-loop a b i₀ i = ?
+μ-loop a b i₀ i = length a - i
 
--- src/lib.rt:208:9
 returns : tie.Need-returns Inv-loop μ-loop
-returns c = ?
+returns c = same-long _ _ (λ e. omega (arith, e))
 
--- src/lib.rt:211:5
 loop-holds : tie.Need-loop-holds Inv-loop μ-loop
-loop-holds c = ?
+loop-holds c = (search needs, omega arith, refl)
 
--- src/lib.rt:212:12
 shared-slice-read-if2 : tie.Need-shared-slice-read-if2 Inv-loop μ-loop
-shared-slice-read-if2 c = ?
+shared-slice-read-if2 c = search needs
 
--- src/lib.rt:212:20
 shared-slice-read-if2-2 : tie.Need-shared-slice-read-if2-2 Inv-loop μ-loop
-shared-slice-read-if2-2 c = ?
+shared-slice-read-if2-2 c = search needs
 
--- src/lib.rt:213:13
 returns-2 : tie.Need-returns-2 Inv-loop μ-loop
-returns-2 c = ?
+returns-2 c =
+    let head = c .before .before .before .before in
+    let i = head .loop .i in
+    rw (ne-eqb _ _ (c .if2 .taken)) at (sym (same-next _ _ i (omega arith) (omega arith)) ∙ head .loop .inv .2)
 
--- src/lib.rt:215:9
 add-i : tie.Need-add-i Inv-loop μ-loop
-add-i c = ?
+add-i c = search needs
 
--- src/lib.rt:211:5
 loop-less : tie.Need-loop-less Inv-loop μ-loop
-loop-less c = ?
+loop-less c = search needs
 
--- src/lib.rt:211:5
 loop-again : tie.Need-loop-again Inv-loop μ-loop
-loop-again c = ?
+loop-again c =
+    let head = c .before .before .before .before in
+    let i = head .loop .i in
+    (head .loop .inv .0, omega arith, rw (eq-eqb _ _ (c .if2 .left)) at (sym (same-next _ _ i (omega arith) (omega arith)) ∙ head .loop .inv .2))
 
--- src/lib.rt:204:1
 returns-3 : tie.Need-returns-3 Inv-loop μ-loop
-returns-3 c = ?
+returns-3 c = sym (same-end _ _ (c .before .loop .i) (omega arith) (c .before .loop .inv .0)) ∙ c .before .loop .inv .2
 
 pub same-bytes-spec : {M : Type 1} → statement M
 same-bytes-spec =

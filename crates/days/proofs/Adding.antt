@@ -25,6 +25,15 @@ at start d = 16 * (d - start)
 abbrev pub Added : ℕ → Span → List ℕ → ℕ → List ℕ → Type 0
 Added start s lent d out = (w : Window) (l : List Span) → start ≡ dayOf (w .t0) → (a : Awaits w l s lent) → Stored w l s lent a d out
 
+-- what a turn on day d relies on
+pub record Turn (start : ℕ) (s : Span) (d : ℕ) (out : List ℕ) : Type 0 where
+  pub started : start ≤ d
+  pub small : d ≤ 31
+  pub room : at start d + 16 ≤ length out
+  pub few : readOf 4 out (at start d + 4) + 1 < 256 ^ 4
+  pub sum : readOf 8 out (at start d + 8) + instantsUnder s d < 256 ^ 8
+  pub under : Under s d
+
 module _ {start : ℕ} {s : Span} {lent : List ℕ} where
   pub added-none : {d : ℕ} → d ≡ dayOf (s .first) → Added start s lent d lent
   added-none e w l here a = rw e (stored-none w l s lent a)
@@ -42,29 +51,21 @@ module _ {start : ℕ} {s : Span} {lent : List ℕ} where
         let instants : r8 ≡ instantsIn l d = eight ∙ rw here (reads .1) in
         stored-more w l s lent a d out from to (st w l here a) out′ (put ∙ rw (intervals, instants, under, here) refl)
 
-    -- what a turn may rely on, for some list
-    module _ (w : Window) (here : start ≡ dayOf (w .t0)) (some : AwaitsSome w s lent) where
-      abbrev l : List Span
-      l = some .0
-
-      abbrev a : Awaits w l s lent
-      a = some .1
-
-      pub turn-day : (start ≤ d) × (d ≤ 31)
-      turn-day = (omega (arith, here, days-lie w l s lent a .0), omega (arith, days-lie w l s lent a .2, days-lie w l s lent a .3))
-
-      pub turn-room : at start d + 16 ≤ length lent
-      turn-room = rw here (fits w l s lent a d out from to (st w l here a))
-
-      pub turn-long : length out ≡ length lent
-      turn-long = ap length (st w l here a) ∙ length-sets lent (16 * (dayOf (s .first) - dayOf (w .t0))) (recordsFrom (l ++ s ∷ []) (dayOf (s .first)) (d - dayOf (s .first)))
-
-      pub turn-few : readOf 4 out (at start d + 4) + 1 < 256 ^ 4
-      turn-few = rw (here, day-reads w l s lent a d out from to (st w l here a) .0) (few w l s lent a d)
-
-      pub turn-small : readOf 8 out (at start d + 8) + instantsUnder s d < 256 ^ 8
-      unfolding instantsUnder
-      turn-small = rw (here, day-reads w l s lent a d out from to (st w l here a) .1) (omega (arith, instants-most l d, count-most (within s) (startOf d) dayLength))
-
-      pub turn-under : Under s d
-      turn-under = record { forward = lies w l s lent a .1; from = from; to = to; early = omega (arith, lies w l s lent a .2, a .good .end) }
+    -- so a turn may go on, for some list
+    pub turn : (w : Window) → start ≡ dayOf (w .t0) → AwaitsSome w s lent → Turn start s d out
+    unfolding instantsUnder
+    turn w here some =
+        let l = some .0 in
+        let a = some .1 in
+        let stored = st w l here a in
+        let days = days-lie w l s lent a in
+        let reads = day-reads w l s lent a d out from to stored in
+        let long : length out ≡ length lent = ap length stored ∙ length-sets lent (16 * (dayOf (s .first) - dayOf (w .t0))) (recordsFrom (l ++ s ∷ []) (dayOf (s .first)) (d - dayOf (s .first))) in
+        record {
+          started = omega (arith, here, days .0);
+          small = omega (arith, days .2, days .3);
+          room = rw (here, long) (fits w l s lent a d out from to stored);
+          few = rw (here, reads .0) (few w l s lent a d);
+          sum = rw (here, reads .1) (omega (arith, instants-most l d, count-most (within s) (startOf d) dayLength));
+          under = record { forward = lies w l s lent a .1; from = from; to = to; early = omega (arith, lies w l s lent a .2, a .good .end) };
+        }

@@ -39,7 +39,7 @@ cast-put-day c = search needs
 
 put-day-requires : tie.Need-put-day-requires Inv-loop μ-loop
 put-day-requires c κs =
-    let head = c .before .before .before .before .before in
+    let head = c .before .before in
     let room = head .before .before .before .before .pre .room in
     let n = head .before .days .ensures in
     omega (arith, room, n)

@@ -6,3 +6,5 @@ pub mod Records
 pub mod Updates
 pub mod Adding
 pub mod Sames
+pub mod Working
+pub mod Cases

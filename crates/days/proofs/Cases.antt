@@ -1,0 +1,97 @@
+-- The cases of what is given and of what is answered, each from what the parts answered.
+use Prim.Native.Nat.{ℕ, _+_, _*_, _≤_, _<_}
+use mathlib.Core.Path.{_≡_, refl, sym, ap, _∙_}
+use mathlib.Core.Bool.{Bool, true, false, not, cond, _||_, true≢false}
+use mathlib.Core.List.{List}
+use native.Mathlib.Omega.{arith}
+use borrow.Author.Tests.{eq-eqb, ne-eqb, lt-ltb, le-ltb}
+use lib.Dec.{eqb}
+use lib.ListN.{length, take}
+use lib.Seq.{sets, take-at}
+use Rattle.finder.specs.declared.Window.{Window}
+use Rattle.finder.specs.Samples.{Good}
+use Rattle.job.specs.declared.Admission.the-variants.{Admitted}
+use Rattle.days.specs.Days.{dayOf, daysBetween, daysOf}
+use Rattle.days.specs.Summary.{summaryOf}
+use Rattle.days.specs.Given.{spanAt, spansOf, badSpan, badList, nextFrom, same, badAppend}
+use Rattle.days.specs.Totals.{shortRoom, totalsBy}
+use Rattle.days.specs.State.{workedOf, SummedUp}
+use Rattle.days.specs.declared.Totals.the-variants.{Written, SummaryRoom, BadList}
+use Rattle.days.specs.declared.Worked.{Worked}
+use Rattle.days.specs.declared.Worked.the-variants.{Ordered, Bad}
+use Rattle.days.proofs.Working.{length-summary, summary-set}
+
+-- ---- at most 32 days
+
+pub days-most : (w : Window) → Good w → daysOf w ≤ 32
+unfolding daysBetween dayOf
+days-most w good = omega (arith, good .end)
+
+-- the summary of a good list, which was worked out in 512 bytes
+pub worked-summary : (w : Window) (list own₀ own : List ℕ) → 16 * daysOf w ≤ length own₀ → badList w list ≡ false → SummedUp w list own₀ own → take (16 * daysOf w) own ≡ summaryOf w (spansOf list)
+worked-summary w list own₀ own room good summed =
+    ap (take (16 * daysOf w)) (summed good ∙ summary-set w (spansOf list) own₀ room) ∙ take-at (summaryOf w (spansOf list)) _ (16 * daysOf w) (length-summary w (spansOf list))
+
+-- ---- what was told of a list
+
+abbrev nextIn : ℕ → Worked → ℕ
+nextIn n (Ordered k) = k
+nextIn n Bad = n
+
+told-by : (b : Bool) (next : ℕ) → (cond b Bad (Ordered next) ≡ Bad → b ≡ true) × ((n : ℕ) → cond b Bad (Ordered next) ≡ Ordered n → (b ≡ false) × (n ≡ next))
+told-by true next = (λ h. refl, λ n h. let z : _≡_ {A = ℕ} 0 1 = cc in absurd (omega arith))
+told-by false next = (λ h. let z : _≡_ {A = ℕ} 0 1 = cc in absurd (omega arith), λ n h. (refl, sym (ap (nextIn 0) h)))
+
+module _ (w : Window) (list : List ℕ) where
+  pub told-bad : workedOf w list ≡ Bad → badList w list ≡ true
+  unfolding workedOf
+  told-bad h = told-by (badList w list) (nextFrom (w .t0) (spansOf list)) .0 h
+
+  pub told-good : (n : ℕ) → workedOf w list ≡ Ordered n → (badList w list ≡ false) × (n ≡ nextFrom (w .t0) (spansOf list))
+  unfolding workedOf
+  told-good n h = told-by (badList w list) (nextFrom (w .t0) (spansOf list)) .1 n h
+
+-- ---- a piece that is appended
+
+or-true : (b : Bool) → (b || true) ≡ true
+or-true true = refl
+or-true false = refl
+
+not-not : (b : Bool) → b ≡ not (not b)
+not-not true = refl
+not-not false = refl
+
+module _ (w : Window) (list piece summary : List ℕ) where
+  abbrev follows : Bool
+  follows = not (badAppend w list piece summary)
+
+  pub list-bad : badList w list ≡ true → false ≡ follows
+  unfolding badAppend
+  list-bad h = rw h refl
+
+  pub piece-bad : (length piece ≡ 24 → ⊥) → false ≡ follows
+  unfolding badAppend
+  piece-bad h = rw (ne-eqb (length piece) 24 h, or-true (badList w list)) refl
+
+  pub next-bad : badSpan (nextFrom (w .t0) (spansOf list)) (w .t1) (spanAt piece 0) ≡ true → false ≡ follows
+  unfolding badAppend
+  next-bad h = rw (h, or-true (badList w list || not (eqb (length piece) 24))) refl
+
+  pub else-same : badList w list ≡ false → length piece ≡ 24 → badSpan (nextFrom (w .t0) (spansOf list)) (w .t1) (spanAt piece 0) ≡ false → same summary (summaryOf w (spansOf list)) ≡ follows
+  unfolding badAppend
+  else-same h long g = rw (h, eq-eqb (length piece) 24 long, g) (not-not (same summary (summaryOf w (spansOf list))))
+
+-- ---- the answer of an admitted job
+
+module _ (w : Window) (room : ℕ) (bad : Window → Bool) where
+  pub answer-short : room < 16 * daysOf w → SummaryRoom ≡ totalsBy (Admitted w) room bad
+  unfolding totalsBy shortRoom
+  answer-short h = rw (lt-ltb room (16 * daysOf w) h) refl
+
+  pub answer-bad : 16 * daysOf w ≤ room → bad w ≡ true → BadList ≡ totalsBy (Admitted w) room bad
+  unfolding totalsBy shortRoom
+  answer-bad h b = rw (le-ltb room (16 * daysOf w) h, b) refl
+
+  pub answer-written : {n : ℕ} → n ≡ daysOf w → 16 * daysOf w ≤ room → bad w ≡ false → Written n ≡ totalsBy (Admitted w) room bad
+  unfolding totalsBy shortRoom
+  answer-written e h b = rw (le-ltb room (16 * daysOf w) h, b, e) refl

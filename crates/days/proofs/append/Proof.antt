@@ -1,0 +1,37 @@
+-- `days::append` meets its contract: the job's own refusal, or what the window gives.
+use borrow.Author.Needs.{needs}
+use Rattle.days.proofs.append.Statement.{statement}
+use Rattle.days.proofs.append.Tie as tie
+
+admit-requires : tie.Need-admit-requires
+admit-requires c κs = search needs
+
+enum-known-r : tie.Need-enum-known-r
+enum-known-r c = search needs
+
+enum-known-w : tie.Need-enum-known-w
+enum-known-w c = search needs
+
+append-in-requires : tie.Need-append-in-requires
+append-in-requires c κs = ?
+
+returns : tie.Need-returns
+returns c = ?
+
+same-length : tie.Need-same-length
+same-length c = search needs
+
+returns-2 : tie.Need-returns-2
+returns-2 c = ?
+
+pub append-spec : {M : Type 1} → statement M
+append-spec =
+    tie.close
+    (tie.spec
+    admit-requires
+    enum-known-r
+    enum-known-w
+    append-in-requires
+    returns
+    same-length
+    returns-2)

@@ -2,20 +2,21 @@
 use Prim.Native.Nat.{ℕ, _+_, _*_, _≤_, _<_}
 use mathlib.Core.Path.{_≡_, refl, sym, ap, _∙_}
 use mathlib.Core.Bool.{Bool, true, false, not, cond, _||_, true≢false}
-use mathlib.Core.List.{List}
+use mathlib.Core.List.{List, _++_}
 use native.Mathlib.Omega.{arith}
 use borrow.Author.Tests.{eq-eqb, ne-eqb, lt-ltb, le-ltb}
 use lib.Dec.{eqb}
-use lib.ListN.{length, take}
-use lib.Seq.{sets, take-at}
+use lib.ListN.{length, take, drop}
+use lib.Seq.{sets, take-at, take-length}
 use Rattle.finder.specs.declared.Window.{Window}
 use Rattle.finder.specs.Samples.{Good}
+use Rattle.finder.specs.Spans.{Span}
 use Rattle.job.specs.declared.Admission.the-variants.{Admitted}
 use Rattle.days.specs.Days.{dayOf, daysBetween, daysOf}
 use Rattle.days.specs.Summary.{summaryOf}
 use Rattle.days.specs.Given.{spanAt, spansOf, badSpan, badList, nextFrom, same, badAppend}
 use Rattle.days.specs.Totals.{shortRoom, totalsBy}
-use Rattle.days.specs.State.{workedOf, SummedUp}
+use Rattle.days.specs.State.{HasRoom, workedOf, SummedUp}
 use Rattle.days.specs.declared.Totals.the-variants.{Written, SummaryRoom, BadList}
 use Rattle.days.specs.declared.Worked.{Worked}
 use Rattle.days.specs.declared.Worked.the-variants.{Ordered, Bad}
@@ -27,10 +28,21 @@ pub days-most : (w : Window) → Good w → daysOf w ≤ 32
 unfolding daysBetween dayOf
 days-most w good = omega (arith, good .end)
 
+-- so 512 bytes are room for any summary
+pub has-room : (w : Window) (own : List ℕ) → Good w → length own ≡ 512 → HasRoom w own
+has-room w own good long = record { good = good; room = omega (arith, days-most w good, long) }
+
 -- the summary of a good list, which was worked out in 512 bytes
-pub worked-summary : (w : Window) (list own₀ own : List ℕ) → 16 * daysOf w ≤ length own₀ → badList w list ≡ false → SummedUp w list own₀ own → take (16 * daysOf w) own ≡ summaryOf w (spansOf list)
-worked-summary w list own₀ own room good summed =
-    ap (take (16 * daysOf w)) (summed good ∙ summary-set w (spansOf list) own₀ room) ∙ take-at (summaryOf w (spansOf list)) _ (16 * daysOf w) (length-summary w (spansOf list))
+pub worked-summary : (w : Window) (list own₀ own : List ℕ) {n : ℕ} → SummedUp w list own₀ own → badList w list ≡ false → Good w → length own₀ ≡ 512 → n ≡ daysOf w → take (16 * n) own ≡ summaryOf w (spansOf list)
+worked-summary w list own₀ own {n} summed good g long e =
+    ap (λ (k : ℕ). take (16 * k) own) e
+    ∙ ap (take (16 * daysOf w)) (summed good ∙ summary-set w (spansOf list) own₀ (has-room w own₀ g long .room))
+    ∙ take-at (summaryOf w (spansOf list)) _ (16 * daysOf w) (length-summary w (spansOf list))
+
+-- which is copied to where it is asked for
+pub copied : (w : Window) (l : List Span) (own lent : List ℕ) {after : List ℕ} → own ≡ summaryOf w l → 16 * daysOf w ≤ length lent → after ≡ take (length own) own ++ drop (length own) lent → after ≡ sets lent 0 (summaryOf w l)
+copied w l own lent is room put =
+    put ∙ rw (take-length own) (rw (is, length-summary w l) (sym (summary-set w l lent room)))
 
 -- ---- what was told of a list
 

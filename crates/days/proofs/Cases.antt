@@ -1,25 +1,32 @@
 -- The cases of what is given and of what is answered, each from what the parts answered.
-use Prim.Native.Nat.{ℕ, _+_, _*_, _≤_, _<_}
+use Prim.Native.Nat.{ℕ, _*_, _%_, _≤_, _<_}
 use mathlib.Core.Path.{_≡_, refl, sym, ap, _∙_}
 use mathlib.Core.Bool.{Bool, true, false, not, cond, _||_, true≢false}
 use mathlib.Core.List.{List, _++_}
 use native.Mathlib.Omega.{arith}
-use borrow.Author.Tests.{eq-eqb, ne-eqb, lt-ltb, le-ltb}
+use borrow.Author.Tests.{eqb-true, not-false, eq-eqb, ne-eqb, lt-ltb, le-ltb}
 use lib.Dec.{eqb}
 use lib.ListN.{length, take, drop}
 use lib.Seq.{sets, take-at, take-length}
 use Rattle.finder.specs.declared.Window.{Window}
 use Rattle.finder.specs.Samples.{Good}
 use Rattle.finder.specs.Spans.{Span}
-use Rattle.job.specs.declared.Admission.the-variants.{Admitted}
+use Rattle.refusal.specs.declared.Refusal.{Refusal}
+use Rattle.job.specs.Table.{windowOf}
+use Rattle.job.specs.Admission.{admissionOf}
+use Rattle.job.specs.declared.Admission.the-variants.{Admitted, TurnedAway}
+use Rattle.job.proofs.Admits.{admitted-good}
 use Rattle.days.specs.Days.{dayOf, daysBetween, daysOf}
-use Rattle.days.specs.Summary.{summaryOf}
-use Rattle.days.specs.Given.{spanAt, spansOf, badSpan, badList, nextFrom, same, badAppend}
-use Rattle.days.specs.Totals.{shortRoom, totalsBy}
-use Rattle.days.specs.State.{HasRoom, workedOf, SummedUp}
-use Rattle.days.specs.declared.Totals.the-variants.{Written, SummaryRoom, BadList}
+use Rattle.days.specs.Summary.{summaryOf, updated}
+use Rattle.days.specs.Given.{spanAt, spansOf, badSpan, badSpans, badList, nextFrom, same, badAppend}
+use Rattle.days.specs.Totals.{shortRoom, totalsBy, totalsOf, appendOf, leftBy, summaryAfter, appendAfter}
+use Rattle.days.specs.State.{HasRoom, Awaits, workedOf, SummedUp}
+use Rattle.days.specs.declared.Totals.{Totals}
+use Rattle.days.specs.declared.Totals.the-variants.{Written, Job, SummaryRoom, BadList}
 use Rattle.days.specs.declared.Worked.{Worked}
 use Rattle.days.specs.declared.Worked.the-variants.{Ordered, Bad}
+use Rattle.days.proofs.Orderly.{neither}
+use Rattle.days.proofs.Sames.{same-is}
 use Rattle.days.proofs.Working.{length-summary, summary-set}
 
 -- ---- at most 32 days
@@ -93,6 +100,22 @@ module _ (w : Window) (list piece summary : List ℕ) where
   unfolding badAppend
   else-same h long g = rw (h, eq-eqb (length piece) 24 long, g) (not-not (same summary (summaryOf w (spansOf list))))
 
+-- the intervals of a good list are not bad
+pub list-order : (w : Window) (list : List ℕ) → badList w list ≡ false → badSpans (w .t0) (w .t1) (spansOf list) ≡ false
+unfolding badList
+list-order w list h = neither {a = not (eqb (length list % 24) 0)} h .1
+
+-- a piece that may be appended is one interval, which awaits behind a good list whose summary stands in the lent bytes
+pub good-append : (w : Window) (list piece lent : List ℕ) → Good w → badAppend w list piece (take (16 * daysOf w) lent) ≡ false → (length piece ≡ 24) × Awaits w (spansOf list) (spanAt piece 0) lent
+unfolding badAppend
+good-append w list piece lent good h =
+    let a = neither h in
+    let b = neither (a .0) in
+    let c = neither (b .0) in (
+      eqb-true (length piece) 24 (not-false (eqb (length piece) 24) (c .1)),
+      record { good = good; before = list-order w list (c .0); next = b .1; stands = same-is (take (16 * daysOf w) lent) (summaryOf w (spansOf list)) (not-false (same (take (16 * daysOf w) lent) (summaryOf w (spansOf list))) (a .1)) },
+    )
+
 -- ---- the answer of an admitted job
 
 module _ (w : Window) (room : ℕ) (bad : Window → Bool) where
@@ -107,3 +130,30 @@ module _ (w : Window) (room : ℕ) (bad : Window → Bool) where
   pub answer-written : {n : ℕ} → n ≡ daysOf w → 16 * daysOf w ≤ room → bad w ≡ false → Written n ≡ totalsBy (Admitted w) room bad
   unfolding totalsBy shortRoom
   answer-written e h b = rw (le-ltb room (16 * daysOf w) h, b, e) refl
+
+-- ---- by the record
+
+module _ (s list lent : List ℕ) where
+  -- the job's own refusal leaves every byte
+  pub summary-away : (r : Refusal) → admissionOf s ≡ TurnedAway r → (Job r ≡ totalsOf s list (length lent)) × (lent ≡ summaryAfter s list lent)
+  unfolding summaryAfter totalsOf totalsBy
+  summary-away r h = rw h (refl, refl)
+
+  pub append-away : (piece : List ℕ) (r : Refusal) → admissionOf s ≡ TurnedAway r → (Job r ≡ appendOf s list piece lent) × (lent ≡ appendAfter s list piece lent)
+  unfolding appendAfter appendOf totalsBy
+  append-away piece r h = rw h (refl, refl)
+
+  -- an admitted job is answered by its window
+  pub summary-by : (w : Window) (t : Totals) (after : List ℕ) → admissionOf s ≡ Admitted w → t ≡ totalsBy (Admitted w) (length lent) (λ v. badList v list)
+      → after ≡ leftBy t (sets lent 0 (summaryOf w (spansOf list))) lent → (t ≡ totalsOf s list (length lent)) × (after ≡ summaryAfter s list lent)
+  unfolding summaryAfter totalsOf
+  summary-by w t after h told left =
+      let own : w ≡ windowOf s = admitted-good s h .0 in
+      (told ∙ rw h refl, left ∙ rw (own, told, h) refl)
+
+  pub append-by : (piece : List ℕ) (w : Window) (t : Totals) (after : List ℕ) → admissionOf s ≡ Admitted w → t ≡ totalsBy (Admitted w) (length lent) (λ v. badAppend v list piece (take (16 * daysOf v) lent))
+      → after ≡ leftBy t (updated w (spansOf list) (spanAt piece 0) lent) lent → (t ≡ appendOf s list piece lent) × (after ≡ appendAfter s list piece lent)
+  unfolding appendAfter appendOf
+  append-by piece w t after h told left =
+      let own : w ≡ windowOf s = admitted-good s h .0 in
+      (told ∙ rw h refl, left ∙ rw (own, told, h) refl)

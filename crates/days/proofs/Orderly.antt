@@ -15,7 +15,7 @@ neither-of : (a b : Bool) → (a || b) ≡ false → (a ≡ false) × (b ≡ fal
 neither-of true b h = (h, absurd (true≢false h))
 neither-of false b h = (refl, h)
 
-neither : {a b : Bool} → (a || b) ≡ false → (a ≡ false) × (b ≡ false)
+pub neither : {a b : Bool} → (a || b) ≡ false → (a ≡ false) × (b ≡ false)
 neither {a} {b} = neither-of a b
 
 -- both of two tests that hold together

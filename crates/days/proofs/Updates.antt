@@ -162,13 +162,14 @@ module _ (w : Window) (l : List Span) (s : Span) (lent : List ℕ) (a : Awaits w
     day-reads =
         let xs = recordsFrom longer (dayOf (s .first)) (d - dayOf (s .first)) in
         let earlier : dayOf (w .t0) ≤ d = omega (arith, days-lie .0) in
-        let inside : d ≤ dayOf (w .t1) = omega (arith, days-lie .2) in
-        (ap (λ (x : List ℕ). readOf 4 x (16 * (d - dayOf (w .t0)) + 4)) st
-          ∙ read-behind 4 xs lent first-at (16 * (d - dayOf (w .t0)) + 4) (omega (arith, behind, fits)) (omega (arith, behind))
-          ∙ read-intervals w l lent (a .stands) d earlier inside (omega (arith, few d)),
-        ap (λ (x : List ℕ). readOf 8 x (16 * (d - dayOf (w .t0)) + 8)) st
-          ∙ read-behind 8 xs lent first-at (16 * (d - dayOf (w .t0)) + 8) (omega (arith, behind, fits)) (omega (arith, behind))
-          ∙ read-instants w l lent (a .stands) d earlier inside (omega (arith, instants-most l d)))
+        let inside : d ≤ dayOf (w .t1) = omega (arith, days-lie .2) in (
+          ap (λ (x : List ℕ). readOf 4 x (16 * (d - dayOf (w .t0)) + 4)) st
+              ∙ read-behind 4 xs lent first-at (16 * (d - dayOf (w .t0)) + 4) (omega (arith, behind, fits)) (omega (arith, behind))
+              ∙ read-intervals w l lent (a .stands) d earlier inside (omega (arith, few d)),
+          ap (λ (x : List ℕ). readOf 8 x (16 * (d - dayOf (w .t0)) + 8)) st
+              ∙ read-behind 8 xs lent first-at (16 * (d - dayOf (w .t0)) + 8) (omega (arith, behind, fits)) (omega (arith, behind))
+              ∙ read-instants w l lent (a .stands) d earlier inside (omega (arith, instants-most l d)),
+        )
 
     pub stored-more : (out′ : List ℕ) → out′ ≡ sets out (16 * (d - dayOf (w .t0))) (dayBytes d (touching l d + 1) (instantsIn l d + instantsUnder s d)) → Stored (d + 1) out′
     stored-more out′ put =
@@ -176,7 +177,7 @@ module _ (w : Window) (l : List Span) (s : Span) (lent : List ℕ) (a : Awaits w
         let one : (d + 1) - dayOf (s .first) ≡ (d - dayOf (s .first)) + 1 = omega arith in
         let here : dayOf (s .first) + (d - dayOf (s .first)) ≡ d = omega arith in
         let more : recordsFrom longer (dayOf (s .first)) ((d + 1) - dayOf (s .first)) ≡ xs ++ dayRecord longer d =
-            ap (recordsFrom longer (dayOf (s .first))) one ∙ days-add longer (dayOf (s .first)) (d - dayOf (s .first)) 1 ∙ rw here (ap (λ (r : List ℕ). xs ++ r) (day-one longer d)) in
+        ap (recordsFrom longer (dayOf (s .first))) one ∙ days-add longer (dayOf (s .first)) (d - dayOf (s .first)) 1 ∙ rw here (ap (λ (r : List ℕ). xs ++ r) (day-one longer d)) in
         put ∙ rw (st, day-more d from to, more, sets-append xs (dayRecord longer d) lent first-at, behind) refl
 
   pub stored-all : (out : List ℕ) (d : ℕ) → d ≡ dayOf (s .last) + 1 → Stored d out → out ≡ updated w l s lent

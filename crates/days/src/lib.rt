@@ -116,7 +116,11 @@ fn inside(first: u64, last: u64, d: u64) -> u64
 {
     let begins = d * DAY;
     let end = least(last + 1, begins + DAY);
-    if first < begins { end - begins } else { end - first }
+    if first < begins {
+        end - begins
+    } else {
+        end - first
+    }
 }
 
 // ---- a day's record

@@ -1,6 +1,7 @@
 -- `days::summary_in` meets its contract: 11, 12, or the summary, copied from where it was worked out.
 use mathlib.Core.Path.{_≡_, refl, sym, _∙_}
 use native.Mathlib.Omega.{arith}
+use lib.ListN.{length-take}
 use lib.Seq.{length-take-le}
 use Rattle.days.proofs.Cases.{days-most, has-room, worked-summary, copied, told-bad, told-good, answer-short, answer-bad, answer-written}
 use borrow.Author.Needs.{needs}
@@ -41,9 +42,7 @@ slice-aggregate-copy c =
     sym (length-take-le _ _ (omega (arith, counted .days .ensures, days-most _ (counted .before .before .before .pre))))
 
 copy-requires : tie.Need-copy-requires
-copy-requires c κs =
-    let counted = c .before .before .before .before .before .before .before .before in
-    rw (length-take-le _ _ (omega (arith, counted .days .ensures, days-most _ (counted .before .before .before .pre)))) (omega arith)
+copy-requires c κs = simp length-take (omega arith)
 
 returns-2 : tie.Need-returns-2
 returns-2 c =

@@ -8,3 +8,6 @@ pub mod Adding
 pub mod Sames
 pub mod Working
 pub mod Cases
+pub mod Sums
+pub mod Ours
+pub mod Longer

@@ -19,7 +19,7 @@ pub neither : {a b : Bool} → (a || b) ≡ false → (a ≡ false) × (b ≡ fa
 neither {a} {b} = neither-of a b
 
 -- both of two tests that hold together
-both : (a b : Bool) → (a && b) ≡ true → b ≡ true
+pub both : (a b : Bool) → (a && b) ≡ true → b ≡ true
 both true b h = h
 both false b h = absurd (true≢false (sym h))
 

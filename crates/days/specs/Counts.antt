@@ -1,5 +1,5 @@
 -- What is counted of a day, over its instants (document 02, wish 3).
-use Prim.Native.Nat.{ℕ, zero, suc, _+_}
+use Prim.Native.Nat.{ℕ, zero, suc, _+_, _-_}
 use mathlib.Core.Bool.{Bool, cond}
 use mathlib.Core.List.{List, [], _∷_}
 use lib.Dec.{ltb}
@@ -28,3 +28,15 @@ touches s d = ltb 0 (instantsUnder s d)
 unfoldable pub touching : List Span → ℕ → ℕ
 touching [] d = 0
 touching (s ∷ l) d = cond (touches s d) 1 0 + touching l d
+
+-- ---- the sum of all days
+
+-- the instants of n days, from day d on
+unfoldable pub sumFrom : List Span → ℕ → ℕ → ℕ
+sumFrom l d zero = 0
+sumFrom l d (suc n) = instantsIn l d + sumFrom l (suc d) n
+
+-- the instants of a list: those of each interval, whose first and last both belong to it
+unfoldable pub instantsOf : List Span → ℕ
+instantsOf [] = 0
+instantsOf (s ∷ l) = (s .last - s .first + 1) + instantsOf l

@@ -1,6 +1,7 @@
 -- A record without a list: with room for any list row 9 passes and so does row 10, so what is left of the table are rows 1 to 8.
 use Prim.Native.Nat.{ℕ}
 use mathlib.Core.Path.{_≡_, refl, sym, ap, _∙_}
+use mathlib.Core.Logic.{_↔_}
 use mathlib.Core.List.{List, [], _∷_}
 use native.Mathlib.Omega.{arith}
 use Rattle.refusal.specs.Rows.{_then_, first, rowAt}
@@ -16,15 +17,15 @@ use Rattle.elements.proofs.Exactly.{read-exactly, refused-exactly}
 use Rattle.finder.specs.declared.Window.{Window}
 use Rattle.finder.specs.Samples.{Good}
 use Rattle.finder.specs.Records.{roomForAny}
-use Rattle.job.specs.Table.{windowOf, questionOf, windowRow, stepRow, questionRow, roomRow, keplerRow, rowsBeforeSearch, rowsFromWindow, tableButRoom}
+use Rattle.job.specs.Table.{windowOf, questionOf, windowRow, stepRow, questionRow, roomRow, keplerRow, rowsBeforeSearch, rowsFromWindow, tableOf, tableButRoom}
 use Rattle.job.specs.Outcome.{outcomeOf}
 use Rattle.job.specs.Admission.{admissionFrom, admissionOf}
 use Rattle.job.specs.declared.Admission.{Admission}
 use Rattle.job.specs.declared.Admission.the-variants.{Admitted, TurnedAway}
-use Rattle.job.specs.declared.Outcome.the-variants.{Listed}
+use Rattle.job.specs.declared.Outcome.the-variants.{Listed, Refused}
 use Rattle.job.proofs.Laws.{both, good, few-steps, kepler-passes}
-use Rattle.job.proofs.Cases.{before-parts, table-parts}
-use Rattle.job.proofs.Exactly.{listed-first}
+use Rattle.job.proofs.Cases.{before-parts, window-parts, table-parts}
+use Rattle.job.proofs.Exactly.{refused-first, first-refused, listed-first}
 use Rattle.job.proofs.Roomy.{row-passes}
 
 -- rows 6 to 8
@@ -67,6 +68,24 @@ module _ (s : List ℕ) where
       let passed = passed-exactly (recordRows s) .1 (read-exactly s e .0 h .0) in
       told ∙ rw (goes _ _ _ admit-parts passed)
 
+-- ---- with room for any list
+
+module _ (s : List ℕ) where
+  -- the table says the same as without row 9
+  same-verdict : first (tableOf s roomForAny) ≡ first (tableButRoom s)
+  unfolding first _then_
+  same-verdict =
+      let e = elementsOf s in
+      let w = windowOf s in
+      let q = questionOf s in
+      table-parts s roomForAny
+      ∙ ap (λ (v : Verdict). first (recordRows s) then v)
+      (window-parts e w q roomForAny
+      ∙ ap (λ (v : Verdict). v then (keplerRow e w then verdict.Passed)) (any-room w q)
+      ∙ ap (λ (v : Verdict). windowToQuestion w q then (v then verdict.Passed)) (kepler-passes e w)
+      ∙ then-passed (windowToQuestion w q))
+      ∙ sym (admit-parts s)
+
 -- ---- an admission and the verdict
 
 module _ (w : Window) where
@@ -82,6 +101,16 @@ module _ (w : Window) where
 abbrev windowIn : Window → Admission → Window
 windowIn w (Admitted v) = v
 windowIn w (TurnedAway r) = w
+
+-- the refusal, where there is one
+abbrev refusalIn : Refusal → Admission → Refusal
+refusalIn r (Admitted v) = r
+refusalIn r (TurnedAway q) = q
+
+away-from : (v : Verdict) (w : Window) (r : Refusal) → admissionFrom v w ≡ TurnedAway r → v ≡ verdict.Refused r
+unfolding admissionFrom
+away-from verdict.Passed w r h = let z : _≡_ {A = ℕ} 0 1 = cc in absurd (omega arith)
+away-from (verdict.Refused q) w r h = ap (λ (x : Refusal). verdict.Refused x) (ap (refusalIn r) h)
 
 admitted-from : (v : Verdict) (w x : Window) → admissionFrom v w ≡ Admitted x → (v ≡ verdict.Passed) × (x ≡ w)
 unfolding admissionFrom
@@ -107,3 +136,11 @@ module _ (s : List ℕ) where
       let parts = both (first (recordRows s)) (first (rowsFromWindow (elementsOf s) (windowOf s) (questionOf s) room)) (sym (table-parts s room) ∙ listed-first s room n k h) in
       let rows = passed-exactly (rowsFromWindow (elementsOf s) (windowOf s) (questionOf s) room) .0 (parts .1) in
       rw (admit-parts s, parts .0, rows 0, rows 1, rows 2) refl
+
+  -- a record is turned away exactly as its job is refused with room for any list
+  pub away-exactly : (r : Refusal) → (admissionOf s ≡ TurnedAway r) ↔ (outcomeOf s roomForAny ≡ Refused r)
+  unfolding admissionOf
+  away-exactly r = (
+    λ h. first-refused s roomForAny r (same-verdict s ∙ away-from (first (tableButRoom s)) (windowOf s) r h),
+    λ h. sym (from-refused (windowOf s) (first (tableButRoom s)) r (sym (same-verdict s) ∙ refused-first s roomForAny r h)),
+  )

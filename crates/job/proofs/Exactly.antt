@@ -85,11 +85,11 @@ module _ (s : List ℕ) (room : ℕ) where
 
   -- ---- a refusal
 
-  refused-first : (r : Refusal) → outcomeOf s room ≡ Refused r → first (tableOf s room) ≡ verdict.Refused r
+  pub refused-first : (r : Refusal) → outcomeOf s room ≡ Refused r → first (tableOf s room) ≡ verdict.Refused r
   unfolding outcomeOf
   refused-first r h = refused-from (answersIn s) (windowOf s) (first (tableOf s room)) r h
 
-  first-refused : (r : Refusal) → first (tableOf s room) ≡ verdict.Refused r → outcomeOf s room ≡ Refused r
+  pub first-refused : (r : Refusal) → first (tableOf s room) ≡ verdict.Refused r → outcomeOf s room ≡ Refused r
   unfolding outcomeOf
   first-refused r h = from-refused (answersIn s) (windowOf s) (first (tableOf s room)) r h
 

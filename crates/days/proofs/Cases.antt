@@ -105,6 +105,10 @@ pub list-order : (w : Window) (list : List ℕ) → badList w list ≡ false →
 unfolding badList
 list-order w list h = neither {a = not (eqb (length list % 24) 0)} h .1
 
+pub append-list : (w : Window) (list piece summary : List ℕ) → badAppend w list piece summary ≡ false → badList w list ≡ false
+unfolding badAppend
+append-list w list piece summary h = neither (neither (neither h .0) .0) .0
+
 -- a piece that may be appended is one interval, which awaits behind a good list whose summary stands in the lent bytes
 pub good-append : (w : Window) (list piece lent : List ℕ) → Good w → badAppend w list piece (take (16 * daysOf w) lent) ≡ false → (length piece ≡ 24) × Awaits w (spansOf list) (spanAt piece 0) lent
 unfolding badAppend

@@ -11,3 +11,6 @@ pub mod Cases
 pub mod Sums
 pub mod Ours
 pub mod Longer
+pub mod Answered
+pub mod Only
+pub mod Promises

@@ -2,7 +2,9 @@
 use Prim.Native.Nat.{ℕ, zero, suc, _+_, _*_, _≤_, _<_}
 use mathlib.Core.Path.{_≡_, refl, sym, ap, _∙_}
 use mathlib.Core.List.{List, [], _∷_, _++_, append-assoc, append-nil}
+use mathlib.Core.Bool.{false}
 use native.Mathlib.Omega.{arith}
+use borrow.Author.Tests.{ltb-false}
 use lib.ListN.{length, length-append}
 use lib.Seq.{sets}
 use Rattle.words.specs.Little.{putOf}
@@ -12,9 +14,11 @@ use native.Mathlib.Nat.{zero-add}
 use Rattle.finder.specs.Spans.{Span}
 use Rattle.finder.specs.Fits.{listed}
 use Rattle.days.specs.Days.{dayLength, startOf}
-use Rattle.days.specs.Counts.{instantsIn, touching}
+use Rattle.days.specs.Counts.{instantsIn, instantsUnder, touches, touching}
 use Rattle.days.specs.Summary.{dayBytes, dayRecord, recordsFrom}
+use Rattle.days.specs.Given.{badSpan, badSpans, nextFrom}
 use Rattle.days.proofs.Counting.{count-none}
+use Rattle.days.proofs.Touched.{stay}
 
 pub length-day : (d intervals instants : ℕ) → length (dayBytes d intervals instants) ≡ 16
 unfolding dayBytes
@@ -51,6 +55,13 @@ days-same l m d zero same = refl
 days-same l m d (suc n) same =
     let here = same d (omega arith) (omega arith) in
     rw (here .0, here .1) (ap (λ (r : List ℕ). dayBytes d (touching m d) (instantsIn m d) ++ r) (days-same l m (suc d) n (λ j p q. same j (omega arith) (omega arith))))
+
+-- a day that one interval more does not touch
+pub day-stays : (low high : ℕ) (l : List Span) (s : Span) → badSpans low high l ≡ false → badSpan (nextFrom low l) high s ≡ false → (d : ℕ) → touches s d ≡ false → dayRecord (l ++ s ∷ []) d ≡ dayRecord l d
+unfolding dayRecord
+day-stays low high l s before next d none =
+    let same = stay low high l s before next d (omega (arith, ltb-false 0 (instantsUnder s d) none)) in
+    rw (same .0, same .1) refl
 
 -- ---- no interval
 

@@ -4,7 +4,7 @@ use mathlib.Core.Path.{_≡_, refl, sym, ap, _∙_}
 use mathlib.Core.Bool.{Bool, true, false, cond}
 use mathlib.Core.List.{List, [], _∷_, _++_}
 use native.Mathlib.Omega.{arith}
-use borrow.Author.Tests.{lt-ltb, le-ltb}
+use borrow.Author.Tests.{ltb-true, lt-ltb, le-ltb}
 use lib.ListN.{length}
 use Rattle.finder.specs.Spans.{Span}
 use Rattle.finder.specs.Fits.{within, listed}
@@ -35,6 +35,10 @@ module _ (s : Span) (forward : s .first ≤ s .last) (d : ℕ) where
   pub none-after : dayOf (s .last) < d → instantsUnder s d ≡ 0
   unfolding dayOf
   none-after late = omega (arith, under-is)
+
+  pub touched : touches s d ≡ true → (dayOf (s .first) ≤ d) × (d ≤ dayOf (s .last))
+  unfolding dayOf
+  touched h = let some : 0 < instantsUnder s d = ltb-true 0 (instantsUnder s d) h in (omega (arith, some, under-is), omega (arith, some, under-is))
 
 -- ---- one interval more
 

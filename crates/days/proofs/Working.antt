@@ -2,7 +2,7 @@
 use Prim.Native.Nat.{ℕ, zero, suc, _+_, _-_, _*_, _/_, _%_, _≤_, _<_}
 use mathlib.Core.Path.{_≡_, refl, sym, ap, subst, _∙_}
 use mathlib.Core.Bool.{Bool, true, false, not, cond, _||_, true≢false}
-use mathlib.Core.List.{List, [], _∷_, _++_}
+use mathlib.Core.List.{List, [], _∷_, _++_, append-assoc}
 use native.Mathlib.Omega.{arith}
 use native.Mathlib.Nat.{zero-add}
 use borrow.Author.Tests.{eq-eqb, ne-eqb}
@@ -13,13 +13,14 @@ use Rattle.finder.specs.declared.Window.{Window}
 use Rattle.finder.specs.Samples.{lastEnd}
 use Rattle.finder.specs.Spans.{Span, span}
 use Rattle.days.specs.Days.{dayOf, daysOf}
-use Rattle.days.specs.Summary.{summaryOf, updated}
+use Rattle.days.specs.Counts.{touching, instantsIn}
+use Rattle.days.specs.Summary.{dayRecord, recordsFrom, summaryOf, updated}
 use Rattle.days.specs.Given.{spanAt, spansFrom, spansOf, badSpan, badSpans, badList, nextFrom}
 use Rattle.days.specs.State.{HasRoom, Awaits, Updated, workedOf, SummedUp}
 use Rattle.days.specs.declared.Worked.{Worked}
 use Rattle.days.specs.declared.Worked.the-variants.{Ordered, Bad}
 use Rattle.days.proofs.Orderly.{good-span, bad-append, bad-one, next-one}
-use Rattle.days.proofs.Records.{length-days}
+use Rattle.days.proofs.Records.{length-day, length-days, days-add}
 use Rattle.days.proofs.Updates.{afresh}
 
 -- ---- intervals of a list's bytes
@@ -46,6 +47,18 @@ length-summary w l = length-days l (dayOf (w .t0)) (daysOf w)
 pub summary-set : (w : Window) (l : List Span) (lent : List ℕ) → 16 * daysOf w ≤ length lent → sets lent 0 (summaryOf w l) ≡ summaryOf w l ++ drop (16 * daysOf w) lent
 summary-set w l lent room =
     sets-eq (summaryOf w l) lent 0 (omega (arith, length-summary w l)) ∙ ap (λ (n : ℕ). summaryOf w l ++ drop n lent) (zero-add (length (summaryOf w l)) ∙ length-summary w l)
+
+-- record i of it
+pub summary-day : (w : Window) (l : List Span) (i : ℕ) (rest : List ℕ) → i < daysOf w → take 16 (drop (16 * i) (summaryOf w l ++ rest)) ≡ dayRecord l (dayOf (w .t0) + i)
+unfolding summaryOf dayRecord recordsFrom
+summary-day w l i rest below =
+    let d = dayOf (w .t0) in
+    let later = daysOf w - (i + 1) in
+    let n : daysOf w ≡ i + suc later = omega arith in
+    let parts : recordsFrom l d (daysOf w) ++ rest ≡ recordsFrom l d i ++ (dayRecord l (d + i) ++ (recordsFrom l (suc (d + i)) later ++ rest)) = ap (λ (k : ℕ). recordsFrom l d k ++ rest) n ∙ rw (days-add l d i (suc later)) (simp append-assoc) in
+    ap (λ (x : List ℕ). take 16 (drop (16 * i) x)) parts
+    ∙ ap (take 16) (drop-at (recordsFrom l d i) _ (16 * i) (length-days l d i))
+    ∙ take-at (dayRecord l (d + i)) _ 16 (length-day (d + i) (touching l (d + i)) (instantsIn l (d + i)))
 
 -- ---- the loop
 

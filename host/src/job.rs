@@ -5,7 +5,8 @@ use crate::refusal::{check, Refusal};
 use crate::search::{find, Found, Window};
 use crate::sight::Sight;
 
-/// What a job answers: document 01's table, or a list.
+/// What a job answers: document 01's table, or a list. Document 02, wish 3: or a
+/// summary, whose days are counted in `intervals`, and for which none is asked.
 #[derive(Debug, Clone, Copy, PartialEq, Eq)]
 pub struct Answer {
     /// The refusal's number; 0: none.
@@ -30,6 +31,13 @@ impl Answer {
     }
 }
 
+impl From<Refusal> for Answer {
+    fn from(refusal: Refusal) -> Answer {
+        let (refusal, field, number) = refusal.row();
+        Answer::refused(refusal, field, number)
+    }
+}
+
 /// One job whole: any bytes as record, any lent list. Writes the interval
 /// records from byte 0 on success, and nothing else.
 pub fn list(record: &[u8], list: &mut [u8]) -> Answer {
@@ -44,16 +52,13 @@ pub fn list(record: &[u8], list: &mut [u8]) -> Answer {
                 asked,
             }
         }
-        Err(refusal) => {
-            let (refusal, field, number) = refusal.row();
-            Answer::refused(refusal, field, number)
-        }
+        Err(refusal) => refusal.into(),
     }
 }
 
 /// Document 01, Turned away: rows 1 to 9, then 10. Each halving of 0..2^32
 /// leaves half the width whatever the answers, so one search shows all.
-fn accepted(record: &[u8], room: usize) -> Result<(Job, Sight), Refusal> {
+pub(crate) fn accepted(record: &[u8], room: usize) -> Result<(Job, Sight), Refusal> {
     let job = check(record, room)?;
     let sight = Sight::of(&job);
     if sight.shadow.place.width(job.t0) > 1 {

@@ -1,7 +1,7 @@
 //! Document 01 once more, in plain Rust: an implementation written from the
 //! document, and from six readings of it (docs/DECISIONS.md, entry 68), with no
 //! sight of the crates, to be set against the proved one; with document 02's
-//! wishes 1 and 2, written likewise. Modules by document 01's headings; a comment
+//! wishes 1 to 3, written likewise. Modules by document 01's headings; a comment
 //! at each rule names its place.
 
 // The document's letters are kept: E (an anomaly) is not e (the eccentricity).
@@ -9,6 +9,7 @@
 #![forbid(unsafe_code)]
 
 pub mod big;
+pub mod days;
 pub mod job;
 pub mod kepler;
 pub mod place;
@@ -22,5 +23,6 @@ pub mod sight;
 pub mod sine;
 pub mod whole;
 
+pub use days::{append, days};
 pub use job::{list, Answer};
-pub use program::program;
+pub use program::{program, totals};

@@ -1,8 +1,10 @@
-//! Document 01, One job whole: the small program, without its reading and writing.
+//! Document 01, One job whole: the small program, without its reading and writing;
+//! and the one that writes document 02's totals by day, wish 3.
 
+use crate::days::{days, DAY};
 use crate::job::{list, Answer};
-use crate::record::{Interval, Job, INTERVAL, ORBIT};
-use crate::refusal::{room_for, MOST_STEPS};
+use crate::record::{Interval, Job, INTERVAL, ORBIT, TOTAL};
+use crate::refusal::{room_for, LATEST, MOST_STEPS};
 
 /// The flags of a job's closing record; a refusal's has its number added.
 pub const LISTED: u32 = 512;
@@ -18,10 +20,36 @@ pub fn program(input: &[u8]) -> Vec<u8> {
     for piece in input.chunks(ORBIT) {
         let answer = list(piece, &mut room);
         output.extend_from_slice(&room[..answer.intervals as usize * INTERVAL]);
-        let job = Job::decode(piece).map_or(0, |job| job.job);
-        output.extend_from_slice(&closing(job, &answer).encode());
+        output.extend_from_slice(&closing(number(piece), &answer).encode());
     }
     output
+}
+
+/// The bytes the program `totals` writes for a whole input: for each record a head and its
+/// list's summary. The head is as the list's closing record, but first = days; a refused
+/// job's is the same.
+pub fn totals(input: &[u8]) -> Vec<u8> {
+    let mut output = Vec::new();
+    let mut room = vec![0; room_for(MOST_STEPS) as usize];
+    // The latest window's end begins a day.
+    let mut summary = vec![0; TOTAL * (LATEST / DAY + 1) as usize];
+    for piece in input.chunks(ORBIT) {
+        let listed = list(piece, &mut room);
+        let written = &room[..listed.intervals as usize * INTERVAL];
+        let intervals = days(piece, written, &mut summary).intervals;
+        let head = Answer {
+            intervals,
+            ..listed
+        };
+        output.extend_from_slice(&closing(number(piece), &head).encode());
+        output.extend_from_slice(&summary[..intervals as usize * TOTAL]);
+    }
+    output
+}
+
+/// The job number that an answer is given under: a short piece has none.
+fn number(piece: &[u8]) -> u32 {
+    Job::decode(piece).map_or(0, |job| job.job)
 }
 
 /// Flags 512, first = intervals, last = instants asked; or flags 256 + number,

@@ -1,9 +1,12 @@
-//! Document 01, What the desk feeds and gets: the two records, little-endian.
+//! Document 01, What the desk feeds and gets: the two records, little-endian; and
+//! document 02, wish 3: a summary's.
 
 /// Bytes of an orbit record.
 pub const ORBIT: usize = 136;
 /// Bytes of an interval record.
 pub const INTERVAL: usize = 24;
+/// Bytes of a summary's record.
+pub const TOTAL: usize = 16;
 
 /// An orbit record as plain numbers, not yet checked.
 #[derive(Debug, Clone, Copy, PartialEq)]
@@ -91,6 +94,39 @@ impl Interval {
         record[4..8].copy_from_slice(&self.flags.to_le_bytes());
         record[8..16].copy_from_slice(&self.first.to_le_bytes());
         record[16..24].copy_from_slice(&self.last.to_le_bytes());
+        record
+    }
+}
+
+/// Document 02, wish 3: one day's record of a summary.
+#[derive(Debug, Clone, Copy, PartialEq, Eq)]
+pub struct Total {
+    pub day: u32,
+    /// The intervals touching the day.
+    pub intervals: u32,
+    /// The instants in some interval and in the day.
+    pub instants: u64,
+}
+
+impl Total {
+    /// Any 16 bytes read as one record; any other length is no record.
+    pub fn decode(record: &[u8]) -> Option<Total> {
+        if record.len() != TOTAL {
+            return None;
+        }
+        Some(Total {
+            day: u32_at(record, 0),
+            intervals: u32_at(record, 4),
+            instants: u64_at(record, 8),
+        })
+    }
+
+    /// The 16 bytes that decode to this record.
+    pub fn encode(&self) -> [u8; TOTAL] {
+        let mut record = [0; TOTAL];
+        record[0..4].copy_from_slice(&self.day.to_le_bytes());
+        record[4..8].copy_from_slice(&self.intervals.to_le_bytes());
+        record[8..16].copy_from_slice(&self.instants.to_le_bytes());
         record
     }
 }

@@ -1,4 +1,5 @@
-//! Document 01, Turned away: the table, tried in its order.
+//! Document 01, Turned away: the table, tried in its order; and the rows that
+//! document 02's wish 3 adds to it.
 
 use crate::record::{Job, INTERVAL};
 
@@ -9,7 +10,7 @@ pub const LONGEST_STEP: u32 = 1_048_576;
 /// The most steps of a window.
 pub const MOST_STEPS: u64 = 4096;
 
-/// The table's ten rows.
+/// The table's ten rows, and wish 3's two.
 #[derive(Debug, Clone, Copy, PartialEq, Eq)]
 pub enum Refusal {
     Length,
@@ -22,6 +23,8 @@ pub enum Refusal {
     Question,
     Room,
     Kepler,
+    SummaryRoom,
+    List,
 }
 
 impl Refusal {
@@ -38,6 +41,8 @@ impl Refusal {
             Refusal::Question => (8, 0, 0),
             Refusal::Room => (9, 0, 0),
             Refusal::Kepler => (10, 0, 0),
+            Refusal::SummaryRoom => (11, 0, 0),
+            Refusal::List => (12, 0, 0),
         }
     }
 }
@@ -117,7 +122,7 @@ pub fn check(record: &[u8], room: usize) -> Result<Job, Refusal> {
     Ok(job)
 }
 
-fn refuse_if(applies: bool, refusal: Refusal) -> Result<(), Refusal> {
+pub(crate) fn refuse_if(applies: bool, refusal: Refusal) -> Result<(), Refusal> {
     if applies {
         Err(refusal)
     } else {

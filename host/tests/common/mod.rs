@@ -7,6 +7,7 @@ pub mod comparing;
 pub mod driver;
 pub mod families;
 pub mod jobs;
+pub mod lists;
 pub mod random;
 pub mod told;
 

@@ -1,8 +1,8 @@
 //! What the tests share: job 7, refusals, random numbers.
 
 pub use crate::common::random::Random;
-use host::record::{Interval, Job, INTERVAL};
-use host::{list, Answer};
+use host::record::{Interval, Job, Total, INTERVAL, TOTAL};
+use host::{days, list, Answer};
 
 /// Document 01, One job whole: job 7.
 pub fn job7() -> Job {
@@ -33,6 +33,10 @@ pub fn job7_in(t0: u64, t1: u64, step: u32) -> Job {
 
 /// Document 02, wish 2: one turn of the station, ms.
 pub const STATION_TURN: f64 = 86_164_090.5;
+/// Document 02, wish 3: a day, ms.
+pub const DAY: u64 = 86_400_000;
+/// Document 01, Turned away: the end of the latest window, ms.
+pub const MONTH: u64 = 2_678_400_000;
 /// A byte no list begins with, to see what is kept.
 pub const KEPT: u8 = 0xA5;
 /// Room for the longest list.
@@ -75,6 +79,52 @@ pub fn interval(flags: u32, first: u64, last: u64) -> Interval {
         first,
         last,
     }
+}
+
+/// Job 7 over another window, however long that is.
+pub fn job7_over(t0: u64, t1: u64) -> Job {
+    job7_in(t0, t1, 1_048_576)
+}
+
+/// A list's bytes, of intervals by first and last.
+pub fn bytes_of(list: &[(u64, u64)]) -> Vec<u8> {
+    let record = |&(first, last): &(u64, u64)| interval(0, first, last).encode();
+    list.iter().flat_map(record).collect()
+}
+
+/// A summary's record: day, intervals, instants.
+pub fn total(day: u32, intervals: u32, instants: u64) -> Total {
+    Total {
+        day,
+        intervals,
+        instants,
+    }
+}
+
+/// What is answered where a summary of so many days is written.
+pub fn summed(days: usize) -> Answer {
+    listed(days as u64, 0)
+}
+
+/// The summary for any bytes and room; what must be kept is checked here.
+pub fn summary_of(record: &[u8], list: &[u8], room: usize) -> (Answer, Vec<Total>) {
+    let mut buffer = vec![KEPT; room];
+    let answer = days(record, list, &mut buffer);
+    let written = answer.intervals as usize * TOTAL;
+    assert!(
+        buffer[written..].iter().all(|&b| b == KEPT),
+        "a byte was changed"
+    );
+    let totals = buffer[..written].chunks(TOTAL);
+    (answer, totals.map(|b| Total::decode(b).unwrap()).collect())
+}
+
+/// A good list's totals, with just the room that they need.
+pub fn totals_of(job: &Job, list: &[(u64, u64)]) -> Vec<Total> {
+    let need = TOTAL * (job.t1 / DAY - job.t0 / DAY + 1) as usize;
+    let (answer, totals) = summary_of(&job.encode(), &bytes_of(list), need);
+    assert_eq!(answer, summed(need / TOTAL), "{list:?}");
+    totals
 }
 
 /// Document 01's accepted column, written out again: least, most, most accepted.

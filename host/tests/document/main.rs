@@ -1,10 +1,13 @@
-//! Document 01's own numbers, its refusals and lists, document 02's wishes 1 and 2, and properties over seeded pseudo-random jobs: a file for each paragraph.
+//! Document 01's own numbers, its refusals and lists, document 02's wishes 1 to 3, and properties over seeded pseudo-random jobs: a file for each paragraph.
 
 #![allow(non_snake_case)]
 
+mod append;
 #[path = "../common/mod.rs"]
 mod common;
+mod days;
 mod helpers;
+mod list_refusals;
 mod marked;
 mod place;
 mod program;

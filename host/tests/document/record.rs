@@ -1,7 +1,7 @@
-//! Document 01, What the desk feeds and gets: the two records.
+//! Document 01, What the desk feeds and gets: the two records; and document 02's, wish 3.
 
 use crate::helpers::*;
-use host::record::{Interval, Job, INTERVAL, ORBIT};
+use host::record::{Interval, Job, Total, INTERVAL, ORBIT, TOTAL};
 
 #[test]
 fn records_read_and_write_back() {
@@ -11,9 +11,13 @@ fn records_read_and_write_back() {
         assert_eq!(Job::decode(&orbit).unwrap().encode()[..], orbit[..]);
         let bytes = random.bytes(INTERVAL);
         assert_eq!(Interval::decode(&bytes).unwrap().encode()[..], bytes[..]);
+        let bytes = random.bytes(TOTAL);
+        assert_eq!(Total::decode(&bytes).unwrap().encode()[..], bytes[..]);
     }
-    for length in (0..200).filter(|&length| length != INTERVAL) {
-        assert_eq!(Interval::decode(&vec![0; length]), None);
+    for length in 0..200 {
+        let bytes = vec![0; length];
+        assert_eq!(Interval::decode(&bytes).is_some(), length == 24);
+        assert_eq!(Total::decode(&bytes).is_some(), length == 16);
     }
 }
 
@@ -31,4 +35,11 @@ fn record_places() {
     assert_eq!((job.job, job.word, job.fields[12]), (1, 2 << 24, 1.5));
     assert_eq!((job.t0, job.t1), (3, 4 << 56));
     assert_eq!((job.step, job.question), (5 << 8, 6));
+}
+
+#[test]
+fn total_places() {
+    let mut bytes = [0; TOTAL];
+    (bytes[3], bytes[4], bytes[15]) = (1, 2, 3);
+    assert_eq!(Total::decode(&bytes), Some(total(1 << 24, 2, 3 << 56)));
 }

@@ -3,7 +3,7 @@
 
 mod common;
 
-use common::comparing::{first_difference, Difference};
+use common::comparing::{Difference, Program, LISTS, TOTALS};
 use common::families::{self, Pieces};
 use common::jobs::{self, LONGEST_LIST, MOST_STEPS};
 use common::random::Random;
@@ -12,9 +12,7 @@ use host::record::{Interval, Job, INTERVAL};
 use host::Answer;
 use std::collections::BTreeSet;
 
-fn answers(pieces: &[Vec<u8>]) -> Vec<Vec<u8>> {
-    pieces.iter().map(|piece| host::program(piece)).collect()
-}
+const PROGRAMS: [Program; 2] = [LISTS, TOTALS];
 
 /// Listed and refused records, and a short piece.
 fn some_pieces() -> Pieces {
@@ -26,75 +24,108 @@ fn some_pieces() -> Pieces {
 
 #[test]
 fn the_same_answers_are_no_difference() {
-    let answers = answers(&some_pieces());
-    assert_eq!(first_difference(&answers, &answers.concat()), None);
+    for program in PROGRAMS {
+        let answers = program.answers(&some_pieces());
+        assert_eq!(program.first_difference(&answers, &answers.concat()), None);
+    }
 }
 
 #[test]
 fn each_wrong_byte_is_found_in_its_answer() {
-    let answers = answers(&some_pieces());
-    let mut output = answers.concat();
-    let cases = answers
-        .iter()
-        .enumerate()
-        .flat_map(|(case, answer)| vec![case; answer.len()]);
-    for (at, case) in cases.enumerate() {
-        output[at] ^= 1 << (at % 8);
-        let found = first_difference(&answers, &output).map(|difference| difference.case);
-        assert_eq!(found, Some(case), "byte {at}");
-        output[at] ^= 1 << (at % 8);
+    for program in PROGRAMS {
+        let answers = program.answers(&some_pieces());
+        let mut output = answers.concat();
+        let cases = answers
+            .iter()
+            .enumerate()
+            .flat_map(|(case, answer)| vec![case; answer.len()]);
+        for (at, case) in cases.enumerate() {
+            output[at] ^= 1 << (at % 8);
+            let found = program.first_difference(&answers, &output);
+            let found = found.map(|difference| difference.case);
+            assert_eq!(found, Some(case), "{}: byte {at}", program.name);
+            output[at] ^= 1 << (at % 8);
+        }
     }
 }
 
 #[test]
 fn an_output_that_ends_early_is_found() {
-    let answers = answers(&some_pieces());
-    let output = answers.concat();
-    for length in 0..output.len() {
-        assert!(
-            first_difference(&answers, &output[..length]).is_some(),
-            "{length} bytes"
-        );
+    for program in PROGRAMS {
+        let answers = program.answers(&some_pieces());
+        let output = answers.concat();
+        for length in 0..output.len() {
+            let found = program.first_difference(&answers, &output[..length]);
+            assert!(found.is_some(), "{}: {length} bytes", program.name);
+        }
     }
 }
 
 #[test]
 fn an_output_that_goes_on_is_found() {
-    let answers = answers(&some_pieces());
-    let more = Difference {
-        case: answers.len(),
-        independent: vec![],
-        proved: vec![7; 3],
-    };
-    let output = [answers.concat(), vec![7; 3]].concat();
-    assert_eq!(first_difference(&answers, &output), Some(more));
+    for program in PROGRAMS {
+        let answers = program.answers(&some_pieces());
+        let more = Difference {
+            case: answers.len(),
+            independent: vec![],
+            proved: vec![7; 3],
+        };
+        let output = [answers.concat(), vec![7; 3]].concat();
+        assert_eq!(program.first_difference(&answers, &output), Some(more));
+    }
+}
+
+/// What is told where a byte of the second of three answers to the job is wrong.
+fn told_of_a_wrong_byte(program: &Program, job: Job, at: usize) -> String {
+    let pieces = vec![job.encode().to_vec(); 3];
+    let answers = program.answers(&pieces);
+    let mut output = answers.concat();
+    output[answers[0].len() + at] ^= 1;
+    let difference = program.first_difference(&answers, &output).unwrap();
+    program.told(&difference, "mars", &pieces)
+}
+
+fn assert_tells(told: &str, parts: &[&str]) {
+    for part in parts {
+        assert!(told.contains(part), "{part}\nis not in\n{told}");
+    }
 }
 
 /// What is told has the job in words and in bits, both answers and the seed.
 #[test]
 fn a_difference_is_told() {
     let job = jobs::changing(1, 0.0, 30_000, 1);
-    let pieces = vec![job.encode().to_vec(); 3];
-    let answers = answers(&pieces);
-    let mut output = answers.concat();
-    output[answers[0].len() + 40] ^= 1;
-    let told = first_difference(&answers, &output)
-        .unwrap()
-        .told("mars", &pieces);
+    let told = told_of_a_wrong_byte(&LISTS, job, 40);
     let seed = common::random::seed();
-    let interval = |k: usize| told::records(&answers[0][INTERVAL * k..][..INTERVAL])[0].clone();
-    for part in [
-        &format!("case 1 of mars, seed {seed}; again by: QUECHOTZAL_SEED={seed} cargo test"),
-        "field 7, planet radius R, km: 9900.0 (40c3560000000000)",
-        "field 9, its declination: -20.0 (c034000000000000)",
-        "window 25904 to 122914096, step 30002, question 1",
-        &format!("bytes: {}", told::hex(&pieces[1])),
-        &format!("  0: {}", interval(0)),
-        &format!("> 1: {}", interval(1)),
-    ] {
-        assert!(told.contains(part), "{part}\nis not in\n{told}");
-    }
+    let answer = host::program(&job.encode());
+    let interval = |k: usize| told::records(&answer[INTERVAL * k..][..INTERVAL])[0].clone();
+    assert_tells(
+        &told,
+        &[
+            &format!(
+                "case 1 of lists::mars, seed {seed}; again by: QUECHOTZAL_SEED={seed} cargo test"
+            ),
+            "field 7, planet radius R, km: 9900.0 (40c3560000000000)",
+            "field 9, its declination: -20.0 (c034000000000000)",
+            "window 25904 to 122914096, step 30002, question 1",
+            &format!("bytes: {}", told::hex(&job.encode())),
+            &format!("  0: {}", interval(0)),
+            &format!("> 1: {}", interval(1)),
+        ],
+    );
     assert_eq!(told.matches("> 1: job 1: from").count(), 2, "{told}");
+}
+
+/// Days 0 and 1, of which the second's instants are wrong, or the head.
+#[test]
+fn a_difference_of_totals_is_told() {
+    let job = jobs::changing(1, 0.0, 30_000, 1);
+    let told = told_of_a_wrong_byte(&TOTALS, job, 24 + 16 + 8);
+    assert_tells(&told, &["case 1 of totals::mars", "  0: job 1: 2 days, "]);
+    assert_eq!(told.matches("    1: day 0: ").count(), 2, "{told}");
+    assert_eq!(told.matches("> 2: day 1: ").count(), 2, "{told}");
+    let told = told_of_a_wrong_byte(&TOTALS, job, 8);
+    assert_tells(&told, &["> 0: job 1: 2 days, ", "> 0: job 1: 3 days, "]);
 }
 
 fn listed(piece: &[u8]) -> (Answer, Vec<Interval>) {

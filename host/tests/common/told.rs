@@ -2,7 +2,7 @@
 
 use super::random::seed;
 use host::program::{LISTED, REFUSED};
-use host::record::{Interval, Job, INTERVAL};
+use host::record::{Interval, Job, Total, INTERVAL, TOTAL};
 use host::Answer;
 use std::fmt::Write;
 
@@ -96,10 +96,37 @@ fn job(piece: &[u8]) -> String {
 
 /// The records of a list or of the program's output, one a line.
 pub fn records(bytes: &[u8]) -> Vec<String> {
+    let record = |bytes| record(bytes, "intervals");
     bytes.chunks(INTERVAL).map(record).collect()
 }
 
-fn record(bytes: &[u8]) -> String {
+/// The records of a summary, one a line.
+pub fn days(bytes: &[u8]) -> Vec<String> {
+    bytes.chunks(TOTAL).map(day).collect()
+}
+
+/// An answer of the program `totals`: its head, and its summary.
+pub fn totals(bytes: &[u8]) -> Vec<String> {
+    let (head, summary) = bytes.split_at(bytes.len().min(INTERVAL));
+    let mut lines = vec![record(head, "days")];
+    lines.extend(days(summary));
+    lines
+}
+
+fn day(bytes: &[u8]) -> String {
+    let Some(Total {
+        day,
+        intervals,
+        instants,
+    }) = Total::decode(bytes)
+    else {
+        return format!("{} bytes: {}", bytes.len(), hex(bytes));
+    };
+    format!("day {day}: {intervals} intervals, {instants} instants")
+}
+
+/// `counted` is what a closing record or a head has the number of.
+fn record(bytes: &[u8], counted: &str) -> String {
     let Some(Interval {
         job,
         flags,
@@ -110,7 +137,7 @@ fn record(bytes: &[u8]) -> String {
         return format!("{} bytes: {}", bytes.len(), hex(bytes));
     };
     match flags {
-        LISTED => format!("job {job}: {first} intervals, {last} instants asked"),
+        LISTED => format!("job {job}: {first} {counted}, {last} instants asked"),
         REFUSED..LISTED => format!(
             "job {job}: refusal {}, field {first}, last {last}",
             flags - REFUSED

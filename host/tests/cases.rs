@@ -6,9 +6,10 @@ mod common;
 use common::comparing::{Difference, Program, LISTS, TOTALS};
 use common::families::{self, Pieces};
 use common::jobs::{self, LONGEST_LIST, MOST_STEPS};
+use common::lists;
 use common::random::Random;
 use common::told;
-use host::record::{Interval, Job, INTERVAL};
+use host::record::{Interval, Job, INTERVAL, TOTAL};
 use host::Answer;
 use std::collections::BTreeSet;
 
@@ -238,4 +239,12 @@ fn every_step_changes() {
             .sum();
         assert_eq!(2 * answer.intervals - u64::from(at_ends), MOST_STEPS);
     }
+}
+
+/// The list that the door's totals are tried and measured with: as long as can be, over 31 days.
+#[test]
+fn the_longest_list_over_31_days() {
+    let job = jobs::changing(1, 0.0, 650_000, 1);
+    assert_eq!(lists::own(&job.encode()).len(), LONGEST_LIST);
+    assert_eq!(lists::need(&job), 31 * TOTAL);
 }

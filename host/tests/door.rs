@@ -106,7 +106,8 @@ impl After {
     fn told(&self) -> Vec<String> {
         let answer = &self.answer[MARGIN..self.answer.len() - MARGIN];
         let mut lines = vec![format!("returned {}", self.returned)];
-        lines.push(door::decode(answer).map_or(told::hex(answer), |answer| told::answer(&answer)));
+        let decoded = door::decode(answer).map(|answer| told::answer(&answer, "intervals"));
+        lines.push(decoded.unwrap_or(told::hex(answer)));
         lines.push(format!("around the answer: {}", told::hex(&self.answer)));
         lines.extend(told::records(&self.list));
         lines

@@ -1,4 +1,4 @@
-//! The door: the proved library's function as Rust calls it.
+//! The door: the proved library's functions as Rust calls them.
 
 use host::Answer;
 
@@ -14,6 +14,30 @@ extern "C" {
         answer: *mut u8,
         answer_length: usize,
     ) -> u32;
+
+    fn quechotzal_days(
+        record: *const u8,
+        record_length: usize,
+        list: *const u8,
+        list_length: usize,
+        out: *mut u8,
+        out_length: usize,
+        answer: *mut u8,
+        answer_length: usize,
+    ) -> u32;
+
+    fn quechotzal_append(
+        record: *const u8,
+        record_length: usize,
+        list: *const u8,
+        list_length: usize,
+        interval: *const u8,
+        interval_length: usize,
+        summary: *mut u8,
+        summary_length: usize,
+        answer: *mut u8,
+        answer_length: usize,
+    ) -> u32;
 }
 
 /// Writes the list and the answer, and says whether it did.
@@ -26,6 +50,48 @@ pub fn list(record: &[u8], list: &mut [u8], answer: &mut [u8]) -> u32 {
             record.len(),
             list.as_mut_ptr(),
             list.len(),
+            answer.as_mut_ptr(),
+            answer.len(),
+        )
+    }
+}
+
+/// Writes the list's summary and the answer, and says whether it did.
+pub fn days(record: &[u8], list: &[u8], summary: &mut [u8], answer: &mut [u8]) -> u32 {
+    // As above.
+    unsafe {
+        quechotzal_days(
+            record.as_ptr(),
+            record.len(),
+            list.as_ptr(),
+            list.len(),
+            summary.as_mut_ptr(),
+            summary.len(),
+            answer.as_mut_ptr(),
+            answer.len(),
+        )
+    }
+}
+
+/// Writes the longer list's summary and the answer, and says whether it did.
+pub fn append(
+    record: &[u8],
+    list: &[u8],
+    interval: &[u8],
+    summary: &mut [u8],
+    answer: &mut [u8],
+) -> u32 {
+    // As above.
+    unsafe {
+        quechotzal_append(
+            record.as_ptr(),
+            record.len(),
+            list.as_ptr(),
+            list.len(),
+            interval.as_ptr(),
+            interval.len(),
+            summary.as_mut_ptr(),
+            summary.len(),
             answer.as_mut_ptr(),
             answer.len(),
         )

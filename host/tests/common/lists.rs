@@ -84,15 +84,30 @@ pub fn foreign(random: &mut Random, first: u64, last: u64) -> Interval {
     }
 }
 
-/// As many intervals as there can be, each of one instant.
-pub fn every_second_instant(job: &Job) -> Vec<Interval> {
-    let interval = |first| Interval {
+/// The interval that is but an instant.
+pub fn at(instant: u64) -> Interval {
+    Interval {
         job: 0,
         flags: 0,
-        first,
-        last: first,
-    };
-    (job.t0..=job.t1).step_by(2).map(interval).collect()
+        first: instant,
+        last: instant,
+    }
+}
+
+/// As many intervals as there can be, each of one instant.
+pub fn every_second_instant(job: &Job) -> Vec<Interval> {
+    (job.t0..=job.t1).step_by(2).map(at).collect()
+}
+
+/// A window over a midnight, so short that all its lists can be tried.
+pub const SHORT_WINDOW: (u64, u64) = (DAY - 3, DAY + 2);
+
+/// Firsts and lasts in that window, beside it and far from it, each with each.
+pub fn about_the_short_window() -> Vec<(u64, u64)> {
+    let far = [0, MONTH, 1 << 32, 1 << 63, u64::MAX - 1, u64::MAX];
+    let ends = || (DAY - 5..=DAY + 4).chain(far);
+    let with_each = |first| ends().map(move |last| (first, last));
+    ends().flat_map(with_each).collect()
 }
 
 /// What can be wrong with an interval, by itself or behind the one before.

@@ -12,4 +12,6 @@ pub mod random;
 pub mod told;
 
 #[cfg(door)]
+pub mod calls;
+#[cfg(door)]
 pub mod door;

@@ -146,7 +146,8 @@ fn record(bytes: &[u8], counted: &str) -> String {
     }
 }
 
-pub fn answer(answer: &Answer) -> String {
+/// `counted` is what was written, in the answer's place for intervals.
+pub fn answer(answer: &Answer, counted: &str) -> String {
     let Answer {
         refusal,
         field,
@@ -155,7 +156,7 @@ pub fn answer(answer: &Answer) -> String {
         asked,
     } = answer;
     let float = f64::from_bits(*number);
-    format!("refusal {refusal}, field {field}, number {float:?} ({number:016x}); {intervals} intervals, {asked} instants asked")
+    format!("refusal {refusal}, field {field}, number {float:?} ({number:016x}); {intervals} {counted}, {asked} instants asked")
 }
 
 pub fn hex(bytes: &[u8]) -> String {

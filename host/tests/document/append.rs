@@ -1,7 +1,6 @@
 //! Document 02, wish 3: an interval later than all others is appended to a summary.
 
-use crate::common::lists::{self, FAULTS};
-use crate::days::about_midnight;
+use crate::common::lists::{self, FAULTS, SHORT_WINDOW};
 use crate::helpers::*;
 use crate::list_refusals::{refused_jobs, NOT_GOOD, ROOM_SHORT};
 use host::record::{Job, Total, INTERVAL, TOTAL};
@@ -92,8 +91,8 @@ fn touched(job: &Job, interval: &[u8]) -> impl Iterator<Item = usize> {
 /// Appending is refused exactly where the longer list is not good.
 #[test]
 fn every_short_list() {
-    let (job, pairs) = about_midnight();
-    let record = job.encode();
+    let record = job7_over(SHORT_WINDOW.0, SHORT_WINDOW.1).encode();
+    let pairs = lists::about_the_short_window();
     let hold = |list: &[u8], interval: &[u8]| {
         let longer = [list, interval].concat();
         let (refusal, totals) = summary_of(&record, &longer, 32);

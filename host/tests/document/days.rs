@@ -1,6 +1,6 @@
 //! Document 02, wish 3: the summary of a list.
 
-use crate::common::lists;
+use crate::common::lists::{self, SHORT_WINDOW};
 use crate::helpers::*;
 use host::record::{Interval, Job, Total};
 
@@ -136,18 +136,10 @@ fn is_good(job: &Job, list: &[(u64, u64)]) -> bool {
     list.iter().all(fits) && list.windows(2).all(apart)
 }
 
-/// Every list of up to two intervals with ends in and about a short window, and far from it:
-/// the job, and all the pairs of ends.
-pub fn about_midnight() -> (Job, Vec<(u64, u64)>) {
-    let far = [0, MONTH, 1 << 32, 1 << 63, u64::MAX - 1, u64::MAX];
-    let ends = || (DAY - 5..=DAY + 4).chain(far);
-    let pairs = ends().flat_map(|first| ends().map(move |last| (first, last)));
-    (job7_over(DAY - 3, DAY + 2), pairs.collect())
-}
-
 #[test]
 fn every_short_list() {
-    let (job, pairs) = about_midnight();
+    let job = job7_over(SHORT_WINDOW.0, SHORT_WINDOW.1);
+    let pairs = lists::about_the_short_window();
     let mut good = 0;
     let mut hold = |list: &[(u64, u64)]| {
         let (answer, totals) = summary_of(&job.encode(), &bytes_of(list), 40);

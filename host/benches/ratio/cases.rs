@@ -4,13 +4,18 @@ use super::common::families;
 use super::common::jobs::{
     any, changing, over, plausible, windowed, LONGEST_LIST, MARS, MOST_STEPS,
 };
+use super::common::lists::{self, LONGEST_SUMMARY};
 use super::common::random::Random;
+use super::measured::{Sides, LISTING, SUMMING};
 use host::record::{Job, ORBIT};
 use std::cmp::Reverse;
 
 pub struct Case {
     pub name: &'static str,
+    pub sides: Sides,
     pub records: Vec<Vec<u8>>,
+    /// What is added up by day; nothing where lists are made.
+    pub list: Vec<u8>,
     pub room: usize,
 }
 
@@ -18,7 +23,9 @@ pub fn all() -> Vec<Case> {
     let random = &mut Random::of("ratio");
     let with_room = |room, name, records| Case {
         name,
+        sides: LISTING,
         records,
+        list: vec![],
         room,
     };
     let case = |name, records| with_room(LONGEST_LIST, name, records);
@@ -37,7 +44,20 @@ pub fn all() -> Vec<Case> {
         case("refused: bits that are wrong", bits_that_are_wrong(random)),
         case("refused: question 3", many(|| unasked(any(random)))),
         with_room(0, "refused: no room", many(|| any(random))),
+        totals_of_the_longest_list(),
     ]
+}
+
+/// Document 02, wish 3: 2,049 intervals over 31 days.
+fn totals_of_the_longest_list() -> Case {
+    let record = changing(1, 0.0, 650_000, 1).encode();
+    Case {
+        name: "totals by day of the longest list",
+        sides: SUMMING,
+        records: vec![record.to_vec()],
+        list: lists::own(&record),
+        room: LONGEST_SUMMARY,
+    }
 }
 
 fn many(mut job: impl FnMut() -> Job) -> Vec<Vec<u8>> {

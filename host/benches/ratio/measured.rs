@@ -7,18 +7,33 @@ use std::env;
 use std::hint::black_box;
 use std::time::{Duration, Instant};
 
-/// One side: the answer's bytes for a record, and its list.
-type Side = fn(&[u8], &mut [u8]) -> [u8; ANSWER];
+/// One side: the answer's bytes for a record and a list, and what is written.
+type Side = fn(&[u8], &[u8], &mut [u8]) -> [u8; ANSWER];
 
-fn proved(record: &[u8], list: &mut [u8]) -> [u8; ANSWER] {
-    let mut answer = [0; ANSWER];
-    door::list(record, list, &mut answer);
-    answer
+pub struct Sides {
+    proved: Side,
+    independent: Side,
 }
 
-fn independent(record: &[u8], list: &mut [u8]) -> [u8; ANSWER] {
-    door::encode(&host::list(record, list))
-}
+/// The record's list is written; the list that is given does not matter.
+pub const LISTING: Sides = Sides {
+    proved: |record, _, list| {
+        let mut answer = [0; ANSWER];
+        door::list(record, list, &mut answer);
+        answer
+    },
+    independent: |record, _, list| door::encode(&host::list(record, list)),
+};
+
+/// The list's summary is written.
+pub const SUMMING: Sides = Sides {
+    proved: |record, list, summary| {
+        let mut answer = [0; ANSWER];
+        door::days(record, list, summary, &mut answer);
+        answer
+    },
+    independent: |record, list, summary| door::encode(&host::days(record, list, summary)),
+};
 
 /// How long a run is at least, and how many there are of each side.
 struct Effort {
@@ -63,6 +78,10 @@ pub fn print(cases: &[Case]) {
 fn row(case: &Case, effort: &Effort) -> f64 {
     let instants = same_answers(case);
     let rounds = rounds(case, effort);
+    let Sides {
+        proved,
+        independent,
+    } = case.sides;
     let [mut proved_best, mut independent_best] = [f64::INFINITY; 2];
     for _ in 0..effort.runs {
         proved_best = proved_best.min(seconds(case, proved, rounds));
@@ -85,10 +104,11 @@ fn row(case: &Case, effort: &Effort) -> f64 {
 fn same_answers(case: &Case) -> u64 {
     let mut instants = 0;
     for record in &case.records {
-        let [mut proved_list, mut independent_list] = [[0; LONGEST_LIST]; 2];
-        let answer = proved(record, &mut proved_list[..case.room]);
-        let alike = answer == independent(record, &mut independent_list[..case.room])
-            && proved_list == independent_list;
+        let [mut by_proved, mut by_independent] = [[0; LONGEST_LIST]; 2];
+        let (proved, independent) = (case.sides.proved, case.sides.independent);
+        let answer = proved(record, &case.list, &mut by_proved[..case.room]);
+        let alike = answer == independent(record, &case.list, &mut by_independent[..case.room])
+            && by_proved == by_independent;
         assert!(
             alike,
             "{}: the two sides disagree; the tests of agreement tell how",
@@ -101,16 +121,18 @@ fn same_answers(case: &Case) -> u64 {
 
 /// How often the jobs are done in a run, for it to be long enough.
 fn rounds(case: &Case, effort: &Effort) -> u32 {
+    let independent = case.sides.independent;
     let once = seconds(case, independent, 1).min(seconds(case, independent, 1));
     (effort.least.as_secs_f64() / once).ceil() as u32
 }
 
 fn seconds(case: &Case, side: Side, rounds: u32) -> f64 {
-    let mut list = vec![0; case.room];
+    let mut lent = vec![0; case.room];
     let start = Instant::now();
     for _ in 0..rounds {
         for record in &case.records {
-            black_box(side(black_box(record), black_box(&mut list)));
+            let (record, list) = (black_box(record), black_box(&case.list));
+            black_box(side(record, list, black_box(&mut lent)));
         }
     }
     start.elapsed().as_secs_f64()

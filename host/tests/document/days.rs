@@ -250,7 +250,7 @@ fn lists_of_other_jobs() {
 fn the_longest_list() {
     let job = job7_over(2 * DAY - 140_001, 2 * DAY + 3);
     let list = ends(&lists::every_second_instant(&job));
-    // The window begins at an odd instant: 70,001 up to day 1's last, and days 2's instants 1 and 3.
+    // The window begins at an odd instant: 70,001 up to day 1's last, and day 2's instants 1 and 3.
     let expected = [total(1, 70_001, 70_001), total(2, 2, 2)];
     assert_eq!(totals_of(&job, &list), expected);
 }

@@ -28,24 +28,19 @@ pub fn refused_jobs() -> Vec<(Vec<u8>, Answer)> {
         word: 1,
         ..not_finite
     };
+    let refused = |job: Job, refusal, field, number| {
+        let answer = Answer::refused(refusal, field, number);
+        (job.encode().to_vec(), answer)
+    };
     vec![
         (word.encode()[1..].to_vec(), Answer::refused(1, 0, 0)),
-        (word.encode().to_vec(), Answer::refused(2, 0, 0)),
-        (
-            not_finite.encode().to_vec(),
-            Answer::refused(3, 2, f64::NAN.to_bits()),
-        ),
-        (
-            range.encode().to_vec(),
-            Answer::refused(4, 13, 91f64.to_bits()),
-        ),
-        (
-            distance.encode().to_vec(),
-            Answer::refused(5, 0, 10_000f64.to_bits()),
-        ),
-        (window.encode().to_vec(), Answer::refused(6, 0, 0)),
-        (step.encode().to_vec(), Answer::refused(7, 0, 0)),
-        (question.encode().to_vec(), Answer::refused(8, 0, 0)),
+        refused(word, 2, 0, 0),
+        refused(not_finite, 3, 2, f64::NAN.to_bits()),
+        refused(range, 4, 13, 91f64.to_bits()),
+        refused(distance, 5, 0, 10_000f64.to_bits()),
+        refused(window, 6, 0, 0),
+        refused(step, 7, 0, 0),
+        refused(question, 8, 0, 0),
     ]
 }
 

@@ -1,16 +1,16 @@
-"""Document 01's rules in exact arithmetic: from an orbit record to what one instant answers, and from the program's input to its output.
+"""Document 01's rules in exact arithmetic: from an orbit record to what one instant answers, and from a program's input to its output.
 
-One function for each rule, in document 01's order and letters, with what document 02's wish 1 adds to the flags and the station's turn of its wish 2.
+One function for each rule, in document 01's order and letters, with what document 02's wish 1 adds to the flags, the station's turn of its wish 2 and the totals of its wish 3.
 It uses nothing of the crates, so that their numbers can be held against it; but it is no independent reading of document 01 (docs/DECISIONS.md,
 "The stored output"). Whole numbers and fractions only, but for the closest distance, which document 01 wants in floats. // is Python's floor, toward
 minus infinity.
-`at(orbit(record), t)` is one instant of a record that document 01 accepts, and `output(records)` is what the program writes.
+`at(orbit(record), t)` is one instant of a record that document 01 accepts, `output(records)` what the program `lists` writes, and `totals(records)` what `totals` does.
 """
 from collections import namedtuple
 from fractions import Fraction
 from functools import cache
 from math import factorial, floor, isqrt
-from struct import pack, unpack
+from struct import iter_unpack, pack, pack_into, unpack, unpack_from
 
 ONE = 2**30
 QUARTER = 2**30
@@ -334,6 +334,104 @@ def reply(piece):
     return b"".join(records) + interval_record(r.job, 512, len(found), asked)
 
 
+def pieces(records):
+    return [records[at : at + 136] for at in range(0, len(records), 136)]
+
+
 def output(records):
-    """What the program writes for its whole input."""
-    return b"".join(reply(records[at : at + 136]) for at in range(0, len(records), 136))
+    """What the program `lists` writes for its whole input."""
+    return b"".join(map(reply, pieces(records)))
+
+
+# ---- Totals by day (document 02, wish 3)
+
+DAY = 86_400_000
+
+
+def days(t0, t1):
+    """The days that the window touches: t is in day floor(t/DAY)."""
+    return range(t0 // DAY, t1 // DAY + 1)
+
+
+def instants_in(day, first, last):
+    """How many instants are in an interval and in a day. Neither has a gap, so they are those of the interval clipped to the day."""
+    return max(0, min(last, DAY * day + DAY - 1) - max(first, DAY * day) + 1)
+
+
+def day_record(day, found):
+    """Day u32, intervals touching it u32, instants u64. Intervals as 12 wants them share no instant, so what is in some of them is what is in each, added up."""
+    shares = [instants_in(day, first, last) for first, last in found]
+    return pack("<IIQ", day, sum(share > 0 for share in shares), sum(shares))
+
+
+def day_records(r, found):
+    return b"".join(day_record(day, found) for day in days(r.t0, r.t1))
+
+
+def found_in(records):
+    """The first and the last of each interval record. Job and flags are not looked at."""
+    return [(first, last) for _, _, first, last in iter_unpack("<IIQQ", records)]
+
+
+def good(r, found):
+    """No interval has last before first, is outside the window or is under two instants after the one before."""
+    inside = all(r.t0 <= first <= last <= r.t1 for first, last in found)
+    return inside and all(first - before >= 2 for (_, before), (first, _) in zip(found, found[1:]))
+
+
+def summary_refusal(piece, records, room):
+    """The job's own first; 9 is not among them, since no list is written."""
+    if refused := refusal(piece, ROOM):
+        return refused
+    r = read(piece)
+    if room < 16 * len(days(r.t0, r.t1)):
+        return 11, 0
+    if len(records) % 24 != 0 or not good(r, found_in(records)):
+        return 12, 0
+    return None
+
+
+def summary(piece, records, lent):
+    """Why it is refused, or None; and the lent bytes afterwards: the summary from byte 0, or each as it was."""
+    if refused := summary_refusal(piece, records, len(lent)):
+        return refused, lent
+    written = day_records(read(piece), found_in(records))
+    return None, written + lent[len(written) :]
+
+
+def append_refusal(piece, records, more, lent):
+    """The summary's, and 12 for what is appended and for a summary that is not the list's."""
+    if refused := summary_refusal(piece, records, len(lent)):
+        return refused
+    r = read(piece)
+    if len(more) != 24 or not good(r, found_in(records + more)):
+        return 12, 0
+    if not lent.startswith(day_records(r, found_in(records))):
+        return 12, 0
+    return None
+
+
+def append(piece, records, more, lent):
+    """Why it is refused, or None; and the lent bytes afterwards: each day that the interval touches has one interval more, and its instants there."""
+    if refused := append_refusal(piece, records, more, lent):
+        return refused, lent
+    r, [(first, last)], after = read(piece), found_in(more), bytearray(lent)
+    for at, day in enumerate(days(r.t0, r.t1)):
+        if share := instants_in(day, first, last):
+            _, touching, instants = unpack_from("<IIQ", after, 16 * at)
+            pack_into("<IIQ", after, 16 * at, day, touching + 1, instants + share)
+    return None, bytes(after)
+
+
+def totals_of(piece, listed):
+    """What `totals` writes for a piece, by what `lists` does: the one record of a refused job; else a head with the number of days, and the summary."""
+    job, flags, _, asked = unpack("<IIQQ", listed[-24:])
+    if flags != 512:
+        return listed
+    r = read(piece)
+    return interval_record(job, 512, len(days(r.t0, r.t1)), asked) + day_records(r, found_in(listed[:-24]))
+
+
+def totals(records):
+    """What the program `totals` writes for its whole input."""
+    return b"".join(totals_of(piece, reply(piece)) for piece in pieces(records))

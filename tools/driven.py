@@ -92,6 +92,10 @@ def lists(records):
     return run("lists", records)
 
 
+def totals(records):
+    return run("totals", records)
+
+
 class Count:
     def __init__(self):
         self.passed = self.failed = 0

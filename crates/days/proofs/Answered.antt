@@ -15,7 +15,7 @@ use Rattle.job.specs.declared.Admission.{Admission}
 use Rattle.job.specs.declared.Admission.the-variants.{Admitted, TurnedAway}
 use Rattle.job.proofs.Admits.{admitted-good}
 use Rattle.days.specs.Days.{daysOf}
-use Rattle.days.specs.Totals.{writtenOf, shortRoom, totalsBy}
+use Rattle.days.specs.Totals.{numbersOf, shortRoom, totalsBy}
 use Rattle.days.specs.declared.Totals.{Totals}
 use Rattle.days.specs.declared.Totals.the-variants.{Written, Job, SummaryRoom, BadList}
 
@@ -53,7 +53,7 @@ chosen-bad false false n h = absurd (other-kind h (λ e. omega (arith, e)))
 chosen-written : (x y : Bool) (n k : ℕ) → chosen x y n ≡ Written k → (x ≡ false) × (y ≡ false) × (k ≡ n)
 chosen-written true y n k h = absurd (other-kind h (λ e. omega (arith, e)))
 chosen-written false true n k h = absurd (other-kind h (λ e. omega (arith, e)))
-chosen-written false false n k h = (refl, refl, sym (ap writtenOf h))
+chosen-written false false n k h = (refl, refl, sym (ap (λ (t : Totals). numbersOf t .days) h))
 
 chosen-job : (x y : Bool) (n : ℕ) (r : Refusal) → chosen x y n ≡ Job r → ⊥
 chosen-job true y n r h = other-kind h (λ e. omega (arith, e))

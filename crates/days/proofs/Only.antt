@@ -1,30 +1,15 @@
 -- The contracts of the public functions, as the check reads them off the source, leave one answer and one lent summary only: each is an equation.
 use denote.Ref.{now}
 use Rattle.determined.specs.Determined.{OneResult, OneList, by-value}
-use Rattle.days.proofs.number.Kinds as number
-use Rattle.days.proofs.number.Reads as number-reads
-use Rattle.days.proofs.field.Kinds as field
-use Rattle.days.proofs.field.Reads as field-reads
-use Rattle.days.proofs.bits.Kinds as bits
-use Rattle.days.proofs.bits.Reads as bits-reads
-use Rattle.days.proofs.written.Kinds as written
-use Rattle.days.proofs.written.Reads as written-reads
+use Rattle.days.proofs.told.Kinds as told
+use Rattle.days.proofs.told.Reads as told-reads
 use Rattle.days.proofs.summary.Kinds as summary
 use Rattle.days.proofs.summary.Reads as summary-reads
 use Rattle.days.proofs.append.Kinds as append
 use Rattle.days.proofs.append.Reads as append-reads
 
-pub number-only : OneResult 0 number.ps number.r number-reads.Post
-number-only κs a x y s t p q = by-value _ p q
-
-pub field-only : OneResult 0 field.ps field.r field-reads.Post
-field-only κs a x y s t p q = by-value _ p q
-
-pub bits-only : OneResult 0 bits.ps bits.r bits-reads.Post
-bits-only κs a x y s t p q = by-value _ p q
-
-pub written-only : OneResult 0 written.ps written.r written-reads.Post
-written-only κs a x y s t p q = by-value _ p q
+pub told-only : OneResult 0 told.ps told.r told-reads.Post
+told-only κs a x y s t p q = by-value _ p q
 
 pub summary-only : OneResult 3 summary.ps summary.r summary-reads.Post
 summary-only κs a x y s t p q = by-value _ (p .0) (q .0)

@@ -1,6 +1,6 @@
 -- What is promised of the totals by day: each part a theorem about the contracts of `days::summary` and `days::append`, for every record's bytes,
 -- every list's bytes and every lent summary. docs/PROMISES.md leads here. The statements' words stand in
---   totalsOf, appendOf, summaryAfter, appendAfter, numberOf, fieldOf, bitsOf, writtenOf   days/specs/Totals.antt
+--   totalsOf, appendOf, summaryAfter, appendAfter, numbersOf                            days/specs/Totals.antt
 --   summaryOf, dayRecord                      days/specs/Summary.antt     touches, touching, instantsIn, sumFrom, instantsOf   days/specs/Counts.antt
 --   spansOf, spanAt, badList, badAppend       days/specs/Given.antt       dayOf, daysOf                                        days/specs/Days.antt
 --   admissionOf                               job/specs/Admission.antt    windowOf, roomForAny                                 job/specs, finder/specs
@@ -35,7 +35,7 @@ use Rattle.days.specs.Counts.{touches, touching, instantsIn, sumFrom, in
 use Rattle.days.specs.Summary.{dayRecord, summaryOf, updated}
 use Rattle.days.specs.Given.{spanAt, spansOf, badList, badAppend}
 use Rattle.days.specs.State.{Awaits}
-use Rattle.days.specs.Totals.{numberOf, fieldOf, bitsOf, writtenOf, shortRoom, totalsBy, totalsOf, appendOf, leftBy, summaryAfter, appendAfter}
+use Rattle.days.specs.Totals.{numbersOf, shortRoom, totalsBy, totalsOf, appendOf, leftBy, summaryAfter, appendAfter}
 use Rattle.days.specs.declared.Totals.{Totals}
 use Rattle.days.specs.declared.Totals.the-variants.{Written, Job, SummaryRoom, BadList}
 use Rattle.days.proofs.Answered as answered
@@ -66,23 +66,23 @@ pub record Appended (s list piece old : List ℕ) (t : Totals) (new : List ℕ) 
   pub bytes : new ≡ appendAfter s list piece old
 
 -- this is what the contracts say of every call that ends, as the check reads them off the source
-pub by-contract : (κs : Lfts 3) (a : Dens κs summary.ps) (t : resT summary.r κs .Denot) (x : AtExit (endedOf 3 summary.ps summary.r) κs)
+pub by-summary-contract : (κs : Lfts 3) (a : Dens κs summary.ps) (t : resT summary.r κs .Denot) (x : AtExit (endedOf 3 summary.ps summary.r) κs)
     → summary-reads.Post κs a t x → Summary (now (a .0)) (now (a .1 .0)) (now (a .1 .1 .0)) t (now (x .1 .1 .0))
-by-contract κs a t x p = record { answer = p .0; bytes = p .1 }
+by-summary-contract κs a t x p = record { answer = p .0; bytes = p .1 }
 
 pub by-append-contract : (κs : Lfts 4) (a : Dens κs append.ps) (t : resT append.r κs .Denot) (x : AtExit (endedOf 4 append.ps append.r) κs)
     → append-reads.Post κs a t x → Appended (now (a .0)) (now (a .1 .0)) (now (a .1 .1 .0)) (now (a .1 .1 .1 .0)) t (now (x .1 .1 .1 .0))
 by-append-contract κs a t x p = record { answer = p .0; bytes = p .1 }
 
 -- and it is required of no call that anything holds before it
-pub requires-nothing : (κs : Lfts 3) (a : Dens κs summary.ps) → summary-reads.Pre κs a
-requires-nothing κs a = tt
+pub summary-requires-nothing : (κs : Lfts 3) (a : Dens κs summary.ps) → summary-reads.Pre κs a
+summary-requires-nothing κs a = tt
 
 pub append-requires-nothing : (κs : Lfts 4) (a : Dens κs append.ps) → append-reads.Pre κs a
 append-requires-nothing κs a = tt
 
 -- where nothing is written every byte is kept
-kept : (t : Totals) → (numberOf t ≡ 0 → ⊥) → (a b : List ℕ) → leftBy t a b ≡ b
+kept : (t : Totals) → (numbersOf t .refusal ≡ 0 → ⊥) → (a b : List ℕ) → leftBy t a b ≡ b
 kept (Written days) h a b = absurd (h refl)
 kept (Job r) h a b = refl
 kept SummaryRoom h a b = refl
@@ -121,17 +121,10 @@ module _ (s list old : List ℕ) (t : Totals) (new : List ℕ) (call : Summary s
   unfolding totalsOf
   written-exactly n = rw (call .answer) (answered.written-exactly s (length old) (λ v. badList v list) n)
 
-  -- 11 and 12 return field 0, number 0.0, whose bits are 0, and 0 days
-  pub room-returns : t ≡ SummaryRoom → (numberOf t ≡ 11) × (fieldOf t ≡ 0) × (bitsOf t ≡ 0) × (writtenOf t ≡ 0)
-  room-returns h = rw h (refl, refl, refl, refl)
-
-  pub list-returns : t ≡ BadList → (numberOf t ≡ 12) × (fieldOf t ≡ 0) × (bitsOf t ≡ 0) × (writtenOf t ≡ 0)
-  list-returns h = rw h (refl, refl, refl, refl)
-
   -- and the lent bytes stay
-  pub refused-keeps : (numberOf t ≡ 0 → ⊥) → new ≡ old
+  pub summary-keeps : (numbersOf t .refusal ≡ 0 → ⊥) → new ≡ old
   unfolding summaryAfter
-  refused-keeps h = call .bytes ∙ kept (totalsOf s list (length old)) (λ e. h (ap numberOf (call .answer) ∙ e)) _ _
+  summary-keeps h = call .bytes ∙ kept (totalsOf s list (length old)) (λ e. h (ap (λ (x : Totals). numbersOf x .refusal) (call .answer) ∙ e)) _ _
 
   -- ---- 2. The summary, instant by instant
 
@@ -156,6 +149,10 @@ module _ (s list old : List ℕ) (t : Totals) (new : List ℕ) (call : Summary s
     sum-of-days =
         let good = admitted-good s (found .0) .1 in
         rw (found .3) (sum-all w l good (good-in-order (w .t0) (w .t1) l (list-order w list (found .2))))
+
+-- 11 and 12 return field 0, number 0.0, whose bits are 0, and 0 days
+pub returned : (numbersOf SummaryRoom ≡ record { refusal = 11; field = 0; bits = 0; days = 0 }) × (numbersOf BadList ≡ record { refusal = 12; field = 0; bits = 0; days = 0 })
+returned = (refl, refl)
 
 -- an interval touches the days from that of its first to that of its last, and no other
 pub touches-exactly : (x : Span) → x .first ≤ x .last → (d : ℕ) → (touches x d ≡ true) ↔ ((dayOf (x .first) ≤ d) × (d ≤ dayOf (x .last)))
@@ -184,9 +181,9 @@ module _ (s old : List ℕ) {n k : ℕ} (h : outcomeOf s (length old) ≡ Listed
 
 module _ (s list piece old : List ℕ) (t : Totals) (new : List ℕ) (call : Appended s list piece old t new) where
   -- a refusal leaves every byte
-  pub append-keeps : (numberOf t ≡ 0 → ⊥) → new ≡ old
+  pub append-keeps : (numbersOf t .refusal ≡ 0 → ⊥) → new ≡ old
   unfolding appendAfter
-  append-keeps h = call .bytes ∙ kept (appendOf s list piece old) (λ e. h (ap numberOf (call .answer) ∙ e)) _ _
+  append-keeps h = call .bytes ∙ kept (appendOf s list piece old) (λ e. h (ap (λ (x : Totals). numbersOf x .refusal) (call .answer) ∙ e)) _ _
 
   -- the refusals come in the same order; 12 is for the list, the piece and the summary
   pub append-job-exactly : (r : Refusal) → (t ≡ Job r) ↔ (outcomeOf s roomForAny ≡ Refused r)

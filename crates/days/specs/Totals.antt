@@ -5,7 +5,7 @@ use mathlib.Core.List.{List, []}
 use lib.Dec.{ltb}
 use lib.ListN.{length, take}
 use lib.Seq.{sets}
-use Rattle.refusal.specs.Refusal as refusal
+use Rattle.refusal.specs.Refusal.{numberOf, fieldOf, bitsOf}
 use Rattle.finder.specs.declared.Window.{Window}
 use Rattle.finder.specs.Spans.{Span}
 use Rattle.job.specs.Table.{windowOf}
@@ -15,38 +15,18 @@ use Rattle.job.specs.declared.Admission.the-variants.{Admitted, TurnedAway}
 use Rattle.days.specs.Days.{daysOf}
 use Rattle.days.specs.Summary.{summaryOf, updated}
 use Rattle.days.specs.Given.{spanAt, spansOf, badList, badAppend}
+use Rattle.days.specs.declared.Numbers.{Numbers}
 use Rattle.days.specs.declared.Totals.{Totals}
 use Rattle.days.specs.declared.Totals.the-variants.{Written, Job, SummaryRoom, BadList}
 
 -- ---- an answer's numbers
 
--- the refusal's number, 0 for none
-abbrev pub numberOf : Totals → ℕ
-numberOf (Written days) = 0
-numberOf (Job r) = refusal.numberOf r
-numberOf SummaryRoom = 11
-numberOf BadList = 12
-
--- from 11 on a refusal returns field 0
-abbrev pub fieldOf : Totals → ℕ
-fieldOf (Written days) = 0
-fieldOf (Job r) = refusal.fieldOf r
-fieldOf SummaryRoom = 0
-fieldOf BadList = 0
-
--- and number 0.0, whose bits are 0
-abbrev pub bitsOf : Totals → ℕ
-bitsOf (Written days) = 0
-bitsOf (Job r) = refusal.bitsOf r
-bitsOf SummaryRoom = 0
-bitsOf BadList = 0
-
--- how many days were written, none for a refusal
-abbrev pub writtenOf : Totals → ℕ
-writtenOf (Written days) = days
-writtenOf (Job r) = 0
-writtenOf SummaryRoom = 0
-writtenOf BadList = 0
+-- no refusal is number 0; the job's own returns what it does where a list is written; from 11 on a refusal returns field 0 and number 0.0, whose bits are 0
+abbrev pub numbersOf : Totals → Numbers
+numbersOf (Written days) = record { refusal = 0; field = 0; bits = 0; days = days }
+numbersOf (Job r) = record { refusal = numberOf r; field = fieldOf r; bits = bitsOf r; days = 0 }
+numbersOf SummaryRoom = record { refusal = 11; field = 0; bits = 0; days = 0 }
+numbersOf BadList = record { refusal = 12; field = 0; bits = 0; days = 0 }
 
 -- ---- the refusals in their order
 

@@ -14,7 +14,7 @@ ghost use Rattle.days.specs.Counts.{instantsUnder};
 ghost use Rattle.days.specs.Summary.{dayBytes, summaryOf, updated};
 ghost use Rattle.days.specs.Given.{spanAt, spansOf, badSpan, badList, badAppend, same};
 ghost use Rattle.days.specs.State.{HasRoom, Under, AwaitsSome, Updated, workedOf, SummedUp};
-ghost use Rattle.days.specs.Totals.{numberOf, fieldOf, bitsOf, writtenOf, totalsBy, leftBy, totalsOf, appendOf, summaryAfter, appendAfter};
+ghost use Rattle.days.specs.Totals.{numbersOf, totalsBy, leftBy, totalsOf, appendOf, summaryAfter, appendAfter};
 use finder::Window;
 use job::Admission;
 use refusal::Refusal;
@@ -25,6 +25,14 @@ pub enum Totals {
     Job(Refusal),
     SummaryRoom,
     BadList,
+}
+
+// The refusal's number or 0, the field that offends or 0, the bits of the number that is handed back, and how many days were written.
+pub struct Numbers {
+    pub refusal: u32,
+    pub field: u32,
+    pub bits: u64,
+    pub days: usize,
 }
 
 // Where an interval behind a good list may begin.
@@ -42,53 +50,35 @@ const INTERVAL: usize = 24;
 // Bytes of a day's record.
 const RECORD: usize = 16;
 
-// ---- an answer's numbers
-
-// The refusal's number, or 0.
-pub fn number(t: Totals) -> u32
-    ensures { λ n. ⌜ n ≡ numberOf t ⌝ }
+// An answer in numbers.
+pub fn told(t: Totals) -> Numbers
+    ensures { λ r. ⌜ r ≡ numbersOf t ⌝ }
 {
     match t {
-        Totals::Written { days: _ } => 0,
-        Totals::Job(r) => refusal::number(r),
-        Totals::SummaryRoom => 11,
-        Totals::BadList => 12,
-    }
-}
-
-// The field that offends, or 0.
-pub fn field(t: Totals) -> u32
-    ensures { λ k. ⌜ k ≡ fieldOf t ⌝ }
-{
-    match t {
-        Totals::Written { days: _ } => 0,
-        Totals::Job(r) => refusal::field(r),
-        Totals::SummaryRoom => 0,
-        Totals::BadList => 0,
-    }
-}
-
-// The bits of the number that is handed back.
-pub fn bits(t: Totals) -> u64
-    ensures { λ b. ⌜ b ≡ bitsOf t ⌝ }
-{
-    match t {
-        Totals::Written { days: _ } => 0,
-        Totals::Job(r) => refusal::bits(r),
-        Totals::SummaryRoom => 0,
-        Totals::BadList => 0,
-    }
-}
-
-// How many days were written.
-pub fn written(t: Totals) -> usize
-    ensures { λ n. ⌜ n ≡ writtenOf t ⌝ }
-{
-    match t {
-        Totals::Written { days } => days,
-        Totals::Job(_) => 0,
-        Totals::SummaryRoom => 0,
-        Totals::BadList => 0,
+        Totals::Written { days } => Numbers {
+            refusal: 0,
+            field: 0,
+            bits: 0,
+            days,
+        },
+        Totals::Job(r) => Numbers {
+            refusal: refusal::number(r),
+            field: refusal::field(r),
+            bits: refusal::bits(r),
+            days: 0,
+        },
+        Totals::SummaryRoom => Numbers {
+            refusal: 11,
+            field: 0,
+            bits: 0,
+            days: 0,
+        },
+        Totals::BadList => Numbers {
+            refusal: 12,
+            field: 0,
+            bits: 0,
+            days: 0,
+        },
     }
 }
 

@@ -1,7 +1,7 @@
 -- The cases of what is given and of what is answered, each from what the parts answered.
 use Prim.Native.Nat.{ℕ, _*_, _%_, _≤_, _<_}
 use mathlib.Core.Path.{_≡_, refl, sym, ap, _∙_}
-use mathlib.Core.Bool.{Bool, true, false, not, cond, _||_, true≢false}
+use mathlib.Core.Bool.{Bool, true, false, not, cond, _||_}
 use mathlib.Core.List.{List, _++_}
 use native.Mathlib.Omega.{arith}
 use borrow.Author.Tests.{eqb-true, not-false, eq-eqb, ne-eqb, lt-ltb, le-ltb}
@@ -25,9 +25,10 @@ use Rattle.days.specs.declared.Totals.{Totals}
 use Rattle.days.specs.declared.Totals.the-variants.{Written, Job, SummaryRoom, BadList}
 use Rattle.days.specs.declared.Worked.{Worked}
 use Rattle.days.specs.declared.Worked.the-variants.{Ordered, Bad}
-use Rattle.days.proofs.Orderly.{neither}
+use Rattle.days.proofs.Bools.{neither, or-true, not-not}
 use Rattle.days.proofs.Sames.{same-is}
-use Rattle.days.proofs.Working.{length-summary, summary-set}
+use Rattle.days.proofs.Records.{length-summary}
+use Rattle.days.proofs.Working.{summary-set}
 
 -- ---- at most 32 days
 
@@ -71,14 +72,6 @@ module _ (w : Window) (list : List ℕ) where
   told-good n h = told-by (badList w list) (nextFrom (w .t0) (spansOf list)) .1 n h
 
 -- ---- a piece that is appended
-
-or-true : (b : Bool) → (b || true) ≡ true
-or-true true = refl
-or-true false = refl
-
-not-not : (b : Bool) → b ≡ not (not b)
-not-not true = refl
-not-not false = refl
 
 module _ (w : Window) (list piece summary : List ℕ) where
   abbrev follows : Bool

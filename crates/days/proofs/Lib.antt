@@ -1,4 +1,5 @@
 -- The laws of the totals by day.
+pub mod Bools
 pub mod Counting
 pub mod Orderly
 pub mod Touched

@@ -1,21 +1,20 @@
 -- The longer list, which a list's bytes and a piece behind them are: its intervals are the list's and the piece's, so an update is its summary afresh.
-use Prim.Native.Nat.{ℕ, zero, suc, _+_, _*_, _/_, _%_, _≤_, _<_}
-use mathlib.Core.Path.{_≡_, refl, sym, ap, _∙_}
-use mathlib.Core.Bool.{Bool, true, false, not, _||_}
+use Prim.Native.Nat.{ℕ, zero, suc, _+_, _*_, _/_, _%_, _≤_}
+use mathlib.Core.Path.{_≡_, refl, sym, _∙_}
+use mathlib.Core.Bool.{false}
 use mathlib.Core.List.{List, [], _∷_, _++_}
 use native.Mathlib.Omega.{arith}
 use borrow.Author.Tests.{eqb-true, not-false, eq-eqb}
 use lib.Dec.{eqb}
-use lib.ListN.{length, take, drop, length-append, length-drop}
+use lib.ListN.{length, drop, length-append, length-drop}
 use lib.Seq.{sets, take-append-le, drop-append-le, drop-append-add}
 use Rattle.words.specs.Little.{readOf}
 use Rattle.finder.specs.declared.Window.{Window}
-use Rattle.finder.specs.Spans.{Span, span}
-use Rattle.days.specs.Days.{daysOf}
 use Rattle.days.specs.Summary.{summaryOf, updated}
-use Rattle.days.specs.Given.{spanAt, spansFrom, spansOf, badSpan, badSpans, badList, nextFrom, badAppend}
+use Rattle.days.specs.Given.{spanAt, spansFrom, spansOf, badSpans, badList}
 use Rattle.days.specs.State.{Awaits}
-use Rattle.days.proofs.Orderly.{neither, bad-one}
+use Rattle.days.proofs.Bools.{neither}
+use Rattle.days.proofs.Orderly.{bad-one}
 use Rattle.days.proofs.Working.{spans-one, summary-set}
 use Rattle.days.proofs.Updates.{stands-room, afresh}
 

@@ -1,27 +1,16 @@
 -- What follows of intervals that are not bad: each is inside the window and behind the one before, so no two share an instant and there are not many.
-use Prim.Native.Nat.{ℕ, suc, _+_, _*_, _≤_, _<_, max}
+use Prim.Native.Nat.{ℕ, _+_, _*_, _≤_, _<_, max}
 use mathlib.Core.Path.{_≡_, refl, sym, ap, _∙_}
-use mathlib.Core.Bool.{Bool, true, false, _&&_, _||_, true≢false}
+use mathlib.Core.Bool.{Bool, true, false, _||_, true≢false}
 use mathlib.Core.List.{List, [], _∷_, _++_}
 use native.Mathlib.Omega.{arith}
-use borrow.Author.Tests.{ltb-true, ltb-false, le-ltb, leb-true, leb-false, lt-leb}
-use lib.Dec.{ltb, leb}
+use borrow.Author.Tests.{ltb-false, le-ltb, leb-true, lt-leb}
+use lib.Dec.{leb}
 use lib.ListN.{length}
 use Rattle.finder.specs.Spans.{Span}
 use Rattle.finder.specs.Fits.{InOrder, within, listed}
 use Rattle.days.specs.Given.{badSpan, badSpans, nextFrom}
-
-neither-of : (a b : Bool) → (a || b) ≡ false → (a ≡ false) × (b ≡ false)
-neither-of true b h = (h, absurd (true≢false h))
-neither-of false b h = (refl, h)
-
-pub neither : {a b : Bool} → (a || b) ≡ false → (a ≡ false) × (b ≡ false)
-neither {a} {b} = neither-of a b
-
--- both of two tests that hold together
-pub both : (a b : Bool) → (a && b) ≡ true → b ≡ true
-both true b h = h
-both false b h = absurd (true≢false (sym h))
+use Rattle.days.proofs.Bools.{neither, both, or-assoc, or-false}
 
 -- ---- one interval
 
@@ -40,14 +29,6 @@ span-good low high s a b c = rw (le-ltb (s .last) (s .first) a, le-ltb (s .first
 -- ---- several
 
 -- a bad interval behind others is bad among them
-or-assoc : (a b c : Bool) → ((a || b) || c) ≡ (a || (b || c))
-or-assoc true b c = refl
-or-assoc false b c = refl
-
-or-false : (a : Bool) → (a || false) ≡ a
-or-false true = refl
-or-false false = refl
-
 pub bad-append : (low high : ℕ) (l m : List Span) → badSpans low high (l ++ m) ≡ (badSpans low high l || badSpans (nextFrom low l) high m)
 unfolding badSpans nextFrom
 bad-append low high [] m = refl
@@ -79,11 +60,11 @@ module _ (high : ℕ) where
   unfolding badSpans nextFrom listed
   listed-before low [] t h on = absurd (true≢false (sym on))
   listed-before low (s ∷ l) t h on =
-      let rest = neither-of (badSpan low high s) (badSpans (s .last + 2) high l) h .1 in
+      let rest = neither {a = badSpan low high s} h .1 in
       by (within s t) refl (next-far (s .last + 2) l rest .0) (listed-before (s .last + 2) l t rest)
     where
       by : (x : Bool) → within s t ≡ x → (s .last + 2) + 2 * length l ≤ nextFrom (s .last + 2) l → (listed l t ≡ true → t + 2 ≤ nextFrom (s .last + 2) l) → t + 2 ≤ nextFrom (s .last + 2) l
-      by true p far later = omega (arith, leb-true t (s .last) (both (leb (s .first) t) (leb t (s .last)) p), far)
+      by true p far later = omega (arith, leb-true t (s .last) (both (leb (s .first) t) (leb t (s .last)) p .1), far)
       by false p far later = later (rw p at on)
 
   -- so no instant lies both in one of them and in an interval behind

@@ -5,37 +5,33 @@
 --   spansOf, spanAt, badList, badAppend       days/specs/Given.antt       dayOf, daysOf                                        days/specs/Days.antt
 --   admissionOf                               job/specs/Admission.antt    windowOf, roomForAny                                 job/specs, finder/specs
 --   outcomeOf, listAfter, answersIn           job/specs/Outcome.antt      listOf                                               finder/specs/Spans.antt
-use Prim.Native.Nat.{ℕ, suc, _+_, _-_, _*_, _≤_, _<_}
+use Prim.Native.Nat.{ℕ, _+_, _*_, _≤_, _<_}
 use mathlib.Core.Path.{_≡_, refl, sym, ap, _∙_}
 use mathlib.Core.Logic.{_↔_}
-use mathlib.Core.Bool.{Bool, true, false, cond}
+use mathlib.Core.Bool.{true, false}
 use mathlib.Core.List.{List, [], _∷_, _++_}
-use native.Mathlib.Omega.{arith}
 use contract.Lifetimes.{Lfts}
 use denote.Ref.{now}
 use denote.Triple.Clauses.{AtExit}
 use borrow.Fn.Kinds.{Dens, endedOf, resT}
-use borrow.Author.Tests.{ltb-true, ltb-false}
 use lib.ListN.{length, take, drop}
-use lib.Seq.{take-at, drop-at}
 use Rattle.refusal.specs.declared.Refusal.{Refusal}
 use Rattle.finder.specs.declared.Window.{Window}
-use Rattle.finder.specs.Samples.{lastEnd, Good}
+use Rattle.finder.specs.Samples.{lastEnd}
 use Rattle.finder.specs.Spans.{Span, listOf}
 use Rattle.finder.specs.Records.{roomForAny}
 use Rattle.job.specs.Table.{windowOf}
 use Rattle.job.specs.Outcome.{answersIn, outcomeOf, listAfter}
 use Rattle.job.specs.Admission.{admissionOf}
-use Rattle.job.specs.declared.Admission.{Admission}
-use Rattle.job.specs.declared.Admission.the-variants.{Admitted, TurnedAway}
+use Rattle.job.specs.declared.Admission.the-variants.{Admitted}
 use Rattle.job.specs.declared.Outcome.the-variants.{Listed, Refused}
 use Rattle.job.proofs.Admits.{admitted-good, away-exactly}
 use Rattle.days.specs.Days.{dayOf, daysBetween, daysOf}
-use Rattle.days.specs.Counts.{touches, touching, instantsIn, sumFrom, instantsOf}
-use Rattle.days.specs.Summary.{dayRecord, summaryOf, updated}
+use Rattle.days.specs.Counts.{touches, sumFrom, instantsOf}
+use Rattle.days.specs.Summary.{dayRecord, summaryOf}
 use Rattle.days.specs.Given.{spanAt, spansOf, badList, badAppend}
 use Rattle.days.specs.State.{Awaits}
-use Rattle.days.specs.Totals.{numbersOf, shortRoom, totalsBy, totalsOf, appendOf, leftBy, summaryAfter, appendAfter}
+use Rattle.days.specs.Totals.{numbersOf, totalsOf, appendOf, leftBy, summaryAfter, appendAfter}
 use Rattle.days.specs.declared.Totals.{Totals}
 use Rattle.days.specs.declared.Totals.the-variants.{Written, Job, SummaryRoom, BadList}
 use Rattle.days.proofs.Answered as answered

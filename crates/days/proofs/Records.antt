@@ -11,11 +11,12 @@ use Rattle.words.specs.Little.{putOf}
 use Rattle.words.proofs.Laws.{length-bytes}
 use Rattle.words.proofs.Stores.{sets-append}
 use native.Mathlib.Nat.{zero-add}
+use Rattle.finder.specs.declared.Window.{Window}
 use Rattle.finder.specs.Spans.{Span}
 use Rattle.finder.specs.Fits.{listed}
-use Rattle.days.specs.Days.{dayLength, startOf}
+use Rattle.days.specs.Days.{dayLength, dayOf, startOf, daysOf}
 use Rattle.days.specs.Counts.{instantsIn, instantsUnder, touches, touching}
-use Rattle.days.specs.Summary.{dayBytes, dayRecord, recordsFrom}
+use Rattle.days.specs.Summary.{dayBytes, dayRecord, recordsFrom, summaryOf}
 use Rattle.days.specs.Given.{badSpan, badSpans, nextFrom}
 use Rattle.days.proofs.Counting.{count-none}
 use Rattle.days.proofs.Touched.{stay}
@@ -47,6 +48,10 @@ module _ (l : List Span) where
   pub day-one : (d : ℕ) → recordsFrom l d 1 ≡ dayRecord l d
   unfolding recordsFrom
   day-one d = append-nil (dayRecord l d)
+
+pub length-summary : (w : Window) (l : List Span) → length (summaryOf w l) ≡ 16 * daysOf w
+unfolding summaryOf
+length-summary w l = length-days l (dayOf (w .t0)) (daysOf w)
 
 -- two lists of which the same is counted on these days
 pub days-same : (l m : List Span) (d n : ℕ) → ((j : ℕ) → d ≤ j → j < d + n → (touching l j ≡ touching m j) × (instantsIn l j ≡ instantsIn m j)) → recordsFrom l d n ≡ recordsFrom m d n

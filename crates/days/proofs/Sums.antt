@@ -1,7 +1,7 @@
 -- The sum of all days' instants is the instants of the list: the days lie one behind the other, and the intervals apart inside them.
-use Prim.Native.Nat.{ℕ, zero, suc, _+_, _-_, _*_, _≤_, _<_, min, max}
+use Prim.Native.Nat.{ℕ, zero, suc, _+_, _*_, _≤_, _<_}
 use mathlib.Core.Path.{_≡_, refl, sym, ap, _∙_}
-use mathlib.Core.Bool.{Bool, true, false, _&&_, true≢false}
+use mathlib.Core.Bool.{true, false}
 use mathlib.Core.List.{List, [], _∷_}
 use native.Mathlib.Omega.{arith}
 use borrow.Author.Tests.{leb-true}
@@ -14,7 +14,7 @@ use Rattle.finder.proofs.Fits.{before}
 use Rattle.days.specs.Days.{dayLength, dayOf, startOf, daysBetween, daysOf}
 use Rattle.days.specs.Counts.{countOf, instantsIn, sumFrom, instantsOf}
 use Rattle.days.proofs.Counting.{count-none, count-either, count-within, count-add}
-use Rattle.days.proofs.Orderly.{both}
+use Rattle.days.proofs.Bools.{both}
 
 next-start : (d : ℕ) → startOf (suc d) ≡ startOf d + dayLength
 unfolding startOf
@@ -35,7 +35,7 @@ listed-count : (low high a n : ℕ) (l : List Span) → InOrder low l high → a
 unfolding listed instantsOf
 listed-count low high a n [] o from to = count-none (listed []) a n (λ t. refl)
 listed-count low high a n (s ∷ l) o from to =
-    let apart : (t : ℕ) → within s t ≡ true → listed l t ≡ false = λ t on. before (s .last + 2) high l t (o .3) (omega (arith, leb-true t (s .last) (both (leb (s .first) t) (leb t (s .last)) on))) in
+    let apart : (t : ℕ) → within s t ≡ true → listed l t ≡ false = λ t on. before (s .last + 2) high l t (o .3) (omega (arith, leb-true t (s .last) (both (leb (s .first) t) (leb t (s .last)) on .1))) in
     count-either (within s) (listed l) (listed (s ∷ l)) (λ t. refl) apart a n
     ∙ omega (arith, count-within s (o .1) a n, listed-count (s .last + 2) high a n l (o .3) (omega (arith, o .0, o .1)) to, o .0, o .1, o .2)
 

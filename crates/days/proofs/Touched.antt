@@ -1,7 +1,7 @@
 -- What an interval behind the others adds to a day: one and its instants there where it touches the day, and nothing elsewhere.
 use Prim.Native.Nat.{ℕ, _+_, _-_, _*_, _≤_, _<_, min, max}
-use mathlib.Core.Path.{_≡_, refl, sym, ap, _∙_}
-use mathlib.Core.Bool.{Bool, true, false, cond}
+use mathlib.Core.Path.{_≡_}
+use mathlib.Core.Bool.{true, false, cond}
 use mathlib.Core.List.{List, [], _∷_, _++_}
 use native.Mathlib.Omega.{arith}
 use borrow.Author.Tests.{ltb-true, lt-ltb, le-ltb}
@@ -9,7 +9,7 @@ use lib.ListN.{length}
 use Rattle.finder.specs.Spans.{Span}
 use Rattle.finder.specs.Fits.{within, listed}
 use Rattle.days.specs.Days.{dayLength, dayOf, startOf}
-use Rattle.days.specs.Counts.{countOf, instantsIn, instantsUnder, touches, touching}
+use Rattle.days.specs.Counts.{instantsIn, instantsUnder, touches, touching}
 use Rattle.days.specs.Given.{badSpan, badSpans, nextFrom}
 use Rattle.days.proofs.Counting.{count-either, count-within, count-most, bit-most}
 use Rattle.days.proofs.Orderly.{apart, listed-more}

@@ -1,26 +1,24 @@
 -- The summary that stands in lent bytes, read day by day, and its update: the days that the interval touches are stored, and the bytes are then those
 -- of the longer list's summary worked out afresh.
-use Prim.Native.Nat.{ℕ, zero, suc, _+_, _-_, _*_, _^_, _≤_, _<_}
+use Prim.Native.Nat.{ℕ, suc, _+_, _-_, _*_, _^_, _≤_, _<_}
 use mathlib.Core.Path.{_≡_, refl, sym, ap, _∙_}
-use mathlib.Core.Bool.{false, true, cond}
 use mathlib.Core.List.{List, [], _∷_, _++_, append-assoc}
 use native.Mathlib.Omega.{arith}
 use lib.ListN.{length, take, drop, length-append, length-take, take-append-drop}
-use lib.Seq.{sets, sets-eq, length-sets, length-take-le, take-at, drop-at, drop-drop, drop-append-add}
+use lib.Seq.{sets, sets-eq, length-take-le, take-at, drop-at, drop-drop, drop-append-add}
 use Rattle.words.specs.Little.{bytesOf, readOf}
 use Rattle.words.proofs.Laws.{length-bytes, read-among}
 use Rattle.words.proofs.Stores.{sets-append}
 use Rattle.finder.specs.declared.Window.{Window}
-use Rattle.finder.specs.Samples.{lastEnd}
 use Rattle.finder.specs.Spans.{Span}
-use Rattle.days.specs.Days.{dayLength, dayOf, daysBetween, daysOf, daysUnder}
+use Rattle.days.specs.Days.{dayOf, daysBetween, daysOf}
 use Rattle.days.specs.Counts.{instantsIn, instantsUnder, touches, touching}
 use Rattle.days.specs.Summary.{dayBytes, dayRecord, recordsFrom, summaryOf, updated}
 use Rattle.days.specs.Given.{nextFrom}
 use Rattle.days.specs.State.{Awaits}
 use Rattle.days.proofs.Orderly.{good-span, next-far}
 use Rattle.days.proofs.Touched.{touch-yes, none-before, none-after, touching-more, instants-more, stay, touching-most, instants-most}
-use Rattle.days.proofs.Records.{length-day, length-days, days-add, day-one, days-same}
+use Rattle.days.proofs.Records.{length-days, length-summary, days-add, day-one, days-same}
 
 -- ---- stores
 
@@ -53,13 +51,9 @@ sets-over p old new q i long same =
 -- ---- a summary in lent bytes
 
 module _ (w : Window) (l : List Span) (lent : List ℕ) (stands : take (16 * daysOf w) lent ≡ summaryOf w l) where
-  pub length-summary : length (summaryOf w l) ≡ 16 * daysOf w
-  unfolding summaryOf
-  length-summary = length-days l (dayOf (w .t0)) (daysOf w)
-
   -- the lent bytes are as many, or more
   pub stands-room : 16 * daysOf w ≤ length lent
-  stands-room = omega (arith, length-take (16 * daysOf w) lent, ap length stands, length-summary)
+  stands-room = omega (arith, length-take (16 * daysOf w) lent, ap length stands, length-summary w l)
 
   pub stands-first : lent ≡ summaryOf w l ++ drop (16 * daysOf w) lent
   stands-first = sym (take-append-drop (16 * daysOf w) lent) ∙ ap (λ (x : List ℕ). x ++ drop (16 * daysOf w) lent) stands

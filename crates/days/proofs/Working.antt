@@ -1,26 +1,25 @@
 -- The loop of `work_out`: whenever its test is reached the first k intervals are good and their summary stands in `own`.
 use Prim.Native.Nat.{ℕ, zero, suc, _+_, _-_, _*_, _/_, _%_, _≤_, _<_}
 use mathlib.Core.Path.{_≡_, refl, sym, ap, subst, _∙_}
-use mathlib.Core.Bool.{Bool, true, false, not, cond, _||_, true≢false}
+use mathlib.Core.Bool.{true, false, not, true≢false}
 use mathlib.Core.List.{List, [], _∷_, _++_, append-assoc}
 use native.Mathlib.Omega.{arith}
 use native.Mathlib.Nat.{zero-add}
 use borrow.Author.Tests.{eq-eqb, ne-eqb}
 use lib.Dec.{eqb}
-use lib.ListN.{length, take, drop, length-append}
+use lib.ListN.{length, take, drop}
 use lib.Seq.{sets, sets-eq, length-sets, take-at, drop-at}
 use Rattle.finder.specs.declared.Window.{Window}
-use Rattle.finder.specs.Samples.{lastEnd}
 use Rattle.finder.specs.Spans.{Span, span}
 use Rattle.days.specs.Days.{dayOf, daysOf}
 use Rattle.days.specs.Counts.{touching, instantsIn}
-use Rattle.days.specs.Summary.{dayRecord, recordsFrom, summaryOf, updated}
+use Rattle.days.specs.Summary.{dayRecord, recordsFrom, summaryOf}
 use Rattle.days.specs.Given.{spanAt, spansFrom, spansOf, badSpan, badSpans, badList, nextFrom}
 use Rattle.days.specs.State.{HasRoom, Awaits, Updated, workedOf, SummedUp}
-use Rattle.days.specs.declared.Worked.{Worked}
 use Rattle.days.specs.declared.Worked.the-variants.{Ordered, Bad}
-use Rattle.days.proofs.Orderly.{good-span, bad-append, bad-one, next-one}
-use Rattle.days.proofs.Records.{length-day, length-days, days-add}
+use Rattle.days.proofs.Bools.{or-true}
+use Rattle.days.proofs.Orderly.{bad-append, bad-one, next-one}
+use Rattle.days.proofs.Records.{length-day, length-days, length-summary, days-add}
 use Rattle.days.proofs.Updates.{afresh}
 
 -- ---- intervals of a list's bytes
@@ -40,10 +39,6 @@ spans-one list k = let e : 0 + k ≡ k = omega arith in spans-add list 0 k 1 ∙
 
 -- ---- a summary and what stands behind it
 
-pub length-summary : (w : Window) (l : List Span) → length (summaryOf w l) ≡ 16 * daysOf w
-unfolding summaryOf
-length-summary w l = length-days l (dayOf (w .t0)) (daysOf w)
-
 pub summary-set : (w : Window) (l : List Span) (lent : List ℕ) → 16 * daysOf w ≤ length lent → sets lent 0 (summaryOf w l) ≡ summaryOf w l ++ drop (16 * daysOf w) lent
 summary-set w l lent room =
     sets-eq (summaryOf w l) lent 0 (omega (arith, length-summary w l)) ∙ ap (λ (n : ℕ). summaryOf w l ++ drop n lent) (zero-add (length (summaryOf w l)) ∙ length-summary w l)
@@ -61,12 +56,6 @@ summary-day w l i rest below =
     ∙ take-at (dayRecord l (d + i)) _ 16 (length-day (d + i) (touching l (d + i)) (instantsIn l (d + i)))
 
 -- ---- the loop
-
-or-true : (b c : Bool) → (c || (b || true)) ≡ true
-or-true true true = refl
-or-true true false = refl
-or-true false true = refl
-or-true false false = refl
 
 pub record Working (w : Window) (list own₀ own : List ℕ) (next k : ℕ) : Type 0 where
   pub most : k ≤ length list / 24
@@ -122,7 +111,7 @@ module _ {w : Window} {list own₀ own : List ℕ} {next k : ℕ} (room : HasRoo
         let here : 0 + k ≡ k = omega arith in
         let parts : spansFrom list 0 (length list / 24) ≡ so-far ++ (spanAt list k ∷ spansFrom list (suc k) rest) = ap (spansFrom list 0) n ∙ spans-add list 0 k (suc rest) ∙ ap (λ (j : ℕ). so-far ++ spansFrom list j (suc rest)) here in
         let worst : badSpan (nextFrom (w .t0) so-far) (w .t1) (spanAt list k) ≡ true = rw (is, g .begins) at bad in
-        rw (parts, bad-append (w .t0) (w .t1) so-far (spanAt list k ∷ spansFrom list (suc k) rest), worst) (or-true (badSpans (w .t0) (w .t1) so-far) (not (eqb (length list % 24) 0)))
+        rw (parts, bad-append (w .t0) (w .t1) so-far (spanAt list k ∷ spansFrom list (suc k) rest), worst, or-true (badSpans (w .t0) (w .t1) so-far)) (or-true (not (eqb (length list % 24) 0)))
 
 -- ---- the end
 

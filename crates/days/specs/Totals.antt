@@ -1,13 +1,12 @@
 -- What is answered, and what the summary holds afterwards (document 02, wish 3).
 use Prim.Native.Nat.{ℕ, _*_}
 use mathlib.Core.Bool.{Bool, cond}
-use mathlib.Core.List.{List, []}
+use mathlib.Core.List.{List}
 use lib.Dec.{ltb}
 use lib.ListN.{length, take}
 use lib.Seq.{sets}
 use Rattle.refusal.specs.Refusal.{numberOf, fieldOf, bitsOf}
 use Rattle.finder.specs.declared.Window.{Window}
-use Rattle.finder.specs.Spans.{Span}
 use Rattle.job.specs.Table.{windowOf}
 use Rattle.job.specs.Admission.{admissionOf}
 use Rattle.job.specs.declared.Admission.{Admission}

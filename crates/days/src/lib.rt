@@ -9,7 +9,7 @@ ghost use Rattle.words.specs.Little.{Holds};
 ghost use Rattle.finder.specs.Samples.{Good};
 ghost use Rattle.finder.specs.Spans.{span};
 ghost use Rattle.job.specs.declared.Admission.the-variants.{Admitted};
-ghost use Rattle.days.specs.Days.{dayOf, daysOf};
+ghost use Rattle.days.specs.Days.{daysOf};
 ghost use Rattle.days.specs.Counts.{instantsUnder};
 ghost use Rattle.days.specs.Summary.{dayBytes, summaryOf, updated};
 ghost use Rattle.days.specs.Given.{spanAt, spansOf, badSpan, badList, badAppend, same};

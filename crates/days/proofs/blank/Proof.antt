@@ -1,10 +1,10 @@
 -- `days::blank` meets its contract. Whenever the loop's test is reached, the records of i days stand in `out`.
-use Prim.Native.Nat.{_+_, _-_, _≤_}
-use mathlib.Core.Path.{_≡_, refl, ap, _∙_}
+use Prim.Native.Nat.{_-_, _≤_}
+use mathlib.Core.Path.{_≡_, refl}
 use mathlib.Core.List.{[]}
 use native.Mathlib.Omega.{arith}
 use lib.ListN.{length}
-use lib.Seq.{sets, length-sets}
+use lib.Seq.{sets}
 use Rattle.days.specs.Days.{dayOf, daysBetween}
 use Rattle.days.specs.Summary.{recordsFrom, summaryOf}
 use Rattle.days.proofs.Records.{none-more}

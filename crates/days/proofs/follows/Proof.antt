@@ -3,7 +3,6 @@ use mathlib.Core.Path.{_≡_, refl, sym, _∙_}
 use mathlib.Core.Bool.{false}
 use native.Mathlib.Omega.{arith}
 use lib.Seq.{length-take-le}
-use Rattle.finder.specs.Spans.{span}
 use Rattle.days.specs.Given.{spanAt, spansOf, badSpan, badList, nextFrom}
 use Rattle.days.proofs.Cases.{days-most, has-room, worked-summary, told-bad, told-good, list-bad, piece-bad, next-bad, else-same}
 use borrow.Author.Needs.{needs}

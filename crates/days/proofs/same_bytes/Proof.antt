@@ -1,5 +1,5 @@
 -- `days::same_bytes` meets its contract. Whenever the loop's test is reached, what is left of both is the same exactly if the whole is.
-use Prim.Native.Nat.{_+_, _-_, _≤_}
+use Prim.Native.Nat.{_-_, _≤_}
 use mathlib.Core.Path.{_≡_, refl, sym, _∙_}
 use native.Mathlib.Omega.{arith}
 use borrow.Author.Tests.{eq-eqb, ne-eqb}

@@ -1,5 +1,5 @@
 -- `days::summary_in` meets its contract: 11, 12, or the summary, copied from where it was worked out.
-use mathlib.Core.Path.{_≡_, refl, sym, _∙_}
+use mathlib.Core.Path.{refl, sym, _∙_}
 use native.Mathlib.Omega.{arith}
 use lib.ListN.{length-take}
 use lib.Seq.{length-take-le}

@@ -1,5 +1,5 @@
 -- `days::work_out` meets its contract. Whenever the loop's test is reached, the first k intervals are good and their summary stands in `own`.
-use Prim.Native.Nat.{_+_, _-_, _/_, _≤_}
+use Prim.Native.Nat.{_-_}
 use mathlib.Core.Path.{_≡_, refl, sym, _∙_}
 use native.Mathlib.Omega.{arith}
 use lib.ListN.{length}

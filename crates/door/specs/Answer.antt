@@ -1,4 +1,4 @@
--- What came of a job, in the 32 bytes that a caller in another language lends for it (document 01, "Turned away").
+-- What came of a call, in the 32 bytes that a caller in another language lends for it (document 01, "Turned away"; document 02, wish 3).
 use Prim.Native.Nat.{ℕ, _^_, _<_}
 use mathlib.Core.Path.{_≡_}
 use mathlib.Core.List.{List, _++_}
@@ -7,12 +7,18 @@ use Rattle.words.specs.Little.{bytesOf, readOf}
 use Rattle.refusal.specs.Refusal.{numberOf, fieldOf, bitsOf}
 use Rattle.job.specs.declared.Outcome.{Outcome}
 use Rattle.job.specs.declared.Outcome.the-variants.{Listed, Refused}
+use Rattle.days.specs.Totals as totals
+use Rattle.days.specs.declared.Totals.{Totals}
 use Rattle.door.specs.declared.Answer.{Answer}
 
 -- no refusal is number 0; every refusal returns 0 intervals and 0 instants asked
 abbrev pub answerOf : Outcome → Answer
 answerOf (Listed intervals asked) = record { refusal = 0; field = 0; number = 0; intervals = intervals; asked = asked }
 answerOf (Refused r) = record { refusal = numberOf r; field = fieldOf r; number = bitsOf r; intervals = 0; asked = 0 }
+
+-- of totals by day: the days written stand where a list's intervals do, and no instant was asked
+abbrev pub totalsAnswer : Totals → Answer
+totalsAnswer t = record { refusal = totals.numberOf t; field = totals.fieldOf t; number = totals.bitsOf t; intervals = totals.writtenOf t; asked = 0 }
 
 -- 32 bytes: refusal u32, field u32, the returned number's bits u64, intervals u64, instants asked u64
 unfoldable pub answerBytes : Answer → List ℕ

@@ -5,25 +5,43 @@ use mathlib.Core.Bool.{Bool, cond}
 use mathlib.Core.List.{List}
 use lib.Dec.{eqb}
 use lib.ListN.{length}
-use Rattle.job.specs.Outcome.{outcomeOf, listAfter}
-use Rattle.door.specs.Answer.{answerOf, answerBytes, answerIn, answerSize, AnswerSized}
+use Rattle.job.specs.Outcome.{outcomeOf}
+use Rattle.days.specs.Totals.{totalsOf, appendOf}
+use Rattle.door.specs.declared.Answer.{Answer}
+use Rattle.door.specs.Answer.{answerOf, totalsAnswer, answerBytes, answerIn, answerSize, AnswerSized}
+
+-- ---- what came of a call, in numbers
+
+-- of a job
+abbrev pub listTold : List ℕ → List ℕ → Answer
+listTold s list = answerOf (outcomeOf s (length list))
+
+-- of a list's totals by day
+abbrev pub daysTold : List ℕ → List ℕ → List ℕ → Answer
+daysTold s list out = totalsAnswer (totalsOf s list (length out))
+
+-- of an interval that is appended
+abbrev pub appendTold : List ℕ → List ℕ → List ℕ → List ℕ → Answer
+appendTold s list interval summary = totalsAnswer (appendOf s list interval summary)
+
+-- ---- what is returned and left behind
 
 -- whether the caller lends as many bytes as an answer has
-abbrev pub heard : List ℕ → Bool
-heard answer = eqb (length answer) answerSize
+abbrev pub heardIn : List ℕ → Bool
+heardIn answer = eqb (length answer) answerSize
 
 -- 1, or 0 where nothing at all is written
 unfoldable pub returnedOf : List ℕ → ℕ
-returnedOf answer = cond (heard answer) 1 0
+returnedOf answer = cond (heardIn answer) 1 0
 
--- the list as `job` leaves it
-unfoldable pub listBehind : List ℕ → List ℕ → List ℕ → List ℕ
-listBehind s list answer = cond (heard answer) (listAfter s list) list
+-- a lent buffer afterwards: `new`, or as it was where nothing at all is written
+unfoldable pub behind : List ℕ → List ℕ → List ℕ → List ℕ
+behind answer new old = cond (heardIn answer) new old
 
--- what came of the job
-unfoldable pub answerBehind : List ℕ → List ℕ → List ℕ → List ℕ
-answerBehind s list answer = cond (heard answer) (answerBytes (answerOf (outcomeOf s (length list)))) answer
+-- the answer afterwards, where a came of the call
+abbrev pub answerBehind : List ℕ → Answer → List ℕ
+answerBehind answer a = behind answer (answerBytes a) answer
 
--- the numbers that a caller reads off the answer's bytes afterwards are those that came of the job: none was cut off
-abbrev pub ReadsBack : List ℕ → List ℕ → List ℕ → List ℕ → Type 0
-ReadsBack s list answer after = AnswerSized answer → answerIn after ≡ answerOf (outcomeOf s (length list))
+-- the numbers that a caller reads off the answer's bytes afterwards are those that came of the call: none was cut off
+abbrev pub ReadsBack : List ℕ → Answer → List ℕ → Type 0
+ReadsBack answer a after = AnswerSized answer → answerIn after ≡ a

@@ -1,11 +1,18 @@
--- `door::write` meets its contract: the five numbers, put one behind the other, are the answer, which fills the 32 bytes.
-use mathlib.Core.Path.{sym, _∙_}
+-- `door::write` meets its contract: the five numbers, put one behind the other, are the answer, which fills the 32 bytes and is read back.
+use mathlib.Core.Path.{sym, ap, _∙_}
+use native.Mathlib.Omega.{arith}
 use Rattle.words.proofs.Stores.{sets-all}
-use Rattle.door.specs.Answer.{answerBytes}
-use Rattle.door.proofs.Laws.{length-answer, answer-puts}
+use Rattle.door.specs.Answer.{answerBytes, answerIn, Sized}
+use Rattle.door.proofs.Laws.{length-answer, answer-puts, answer-back}
 use borrow.Author.Needs.{needs}
 use Rattle.door.proofs.write.Statement.{statement}
 use Rattle.door.proofs.write.Tie as tie
+
+-- each of the five numbers is one of its type
+sized : (c : tie.Start) → Sized (c .args .a)
+sized c =
+    let ok = c .good in
+    record { refusal-fits = omega (arith, ok); field-fits = omega (arith, ok); number-fits = omega (arith, ok); intervals-fits = omega (arith, ok); asked-fits = omega (arith, ok) }
 
 put4-requires : tie.Need-put4-requires
 put4-requires c κs = search needs
@@ -33,8 +40,10 @@ returns c =
     let p2 = p3 .before .before .before .before in
     let p1 = p2 .before .before .before .before in
     let start = p1 .before .before .before in
+    let wrote =
     answer-puts (start .args .answer .now) (start .args .a) (p1 .put4 .ensures) (p2 .put42 .ensures) (p3 .put8 .ensures) (p4 .put82 .ensures) (p5 .put83 .ensures)
-    ∙ sets-all (answerBytes (start .args .a)) (start .args .answer .now) (start .pre ∙ sym (length-answer (start .args .a)))
+    ∙ sets-all (answerBytes (start .args .a)) (start .args .answer .now) (start .pre ∙ sym (length-answer (start .args .a))) in
+    (wrote, ap answerIn wrote ∙ answer-back (start .args .a) (sized start))
 
 pub write-spec : {M : Type 1} → statement M
 write-spec =

@@ -7,7 +7,7 @@ use Rattle.words.specs.Little.{bytesOf, readOf}
 use Rattle.refusal.specs.Refusal.{numberOf, fieldOf, bitsOf}
 use Rattle.job.specs.declared.Outcome.{Outcome}
 use Rattle.job.specs.declared.Outcome.the-variants.{Listed, Refused}
-use Rattle.days.specs.Totals as totals
+use Rattle.days.specs.Totals.{numbersOf}
 use Rattle.days.specs.declared.Totals.{Totals}
 use Rattle.door.specs.declared.Answer.{Answer}
 
@@ -18,7 +18,7 @@ answerOf (Refused r) = record { refusal = numberOf r; field = fieldOf r; number 
 
 -- of totals by day: the days written stand where a list's intervals do, and no instant was asked
 abbrev pub totalsAnswer : Totals → Answer
-totalsAnswer t = record { refusal = totals.numberOf t; field = totals.fieldOf t; number = totals.bitsOf t; intervals = totals.writtenOf t; asked = 0 }
+totalsAnswer t = let n = numbersOf t in record { refusal = n .refusal; field = n .field; number = n .bits; intervals = n .days; asked = 0 }
 
 -- 32 bytes: refusal u32, field u32, the returned number's bits u64, intervals u64, instants asked u64
 unfoldable pub answerBytes : Answer → List ℕ

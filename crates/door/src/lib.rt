@@ -48,11 +48,12 @@ fn answer_of(o: Outcome) -> Answer
 fn totals_answer(t: Totals) -> Answer
     ensures { λ r. ⌜ r ≡ totalsAnswer t ⌝ }
 {
+    let n = days::told(t);
     Answer {
-        refusal: days::number(t),
-        field: days::field(t),
-        number: days::bits(t),
-        intervals: days::written(t) as u64,
+        refusal: n.refusal,
+        field: n.field,
+        number: n.bits,
+        intervals: n.days as u64,
         asked: 0,
     }
 }

@@ -33,7 +33,7 @@ loop-holds c =
     (added-none refl, refl, omega arith, omega (arith, lies _ _ _ _ (start .pre .1) .1))
 
 sub-at : tie.Need-sub-at Inv-loop μ-loop
-sub-at c = turned c .started
+sub-at c = omega (arith, turned c .started)
 
 mul-at : tie.Need-mul-at Inv-loop μ-loop
 mul-at c = omega (arith, turned c .small)

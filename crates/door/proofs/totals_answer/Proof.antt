@@ -3,25 +3,11 @@ use borrow.Author.Needs.{needs}
 use Rattle.door.proofs.totals_answer.Statement.{statement}
 use Rattle.door.proofs.totals_answer.Tie as tie
 
-number-requires : tie.Need-number-requires
-number-requires c κs = search needs
-
-field-requires : tie.Need-field-requires
-field-requires c κs = search needs
-
-bits-requires : tie.Need-bits-requires
-bits-requires c κs = search needs
-
-written-requires : tie.Need-written-requires
-written-requires c κs = search needs
+told-requires : tie.Need-told-requires
+told-requires c κs = search needs
 
 returns : tie.Need-returns
-returns c =
-    let b = c .before in
-    let f = b .before in
-    let n = f .before in
-    λ i. record { refusal = n .number .ensures i; field = f .field .ensures i; number = b .bits .ensures i; intervals = c .written .ensures i; asked = 0 }
+returns c = λ i. let n = c .told .ensures i in record { refusal = n .refusal; field = n .field; number = n .bits; intervals = n .days; asked = 0 }
 
 pub totals-answer-spec : {M : Type 1} → statement M
-totals-answer-spec =
-    tie.close (tie.spec number-requires field-requires bits-requires written-requires returns)
+totals-answer-spec = tie.close (tie.spec told-requires returns)

@@ -1,0 +1,3 @@
+-- The laws of a reply.
+pub mod Laws
+pub mod AsLists

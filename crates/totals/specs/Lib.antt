@@ -1,0 +1,2 @@
+-- What the program writes for a record.
+pub mod Reply

@@ -22,13 +22,14 @@ use Rattle.job.specs.Reply.{jobOf, closingOf}
 use Rattle.job.specs.declared.Outcome.the-variants.{Listed, Refused}
 use Rattle.job.proofs.Exactly.{listed-good, listed-intervals}
 use Rattle.job.proofs.Written.{records-then-rest}
-use Rattle.days.specs.Days.{dayOf, daysBetween, daysOf}
+use Rattle.days.specs.Days.{daysOf}
 use Rattle.days.specs.Summary.{summaryOf}
 use Rattle.days.specs.Given.{spansOf}
-use Rattle.days.specs.Totals.{writtenOf, totalsOf, summaryAfter}
+use Rattle.days.specs.Totals.{numbersOf, totalsOf, summaryAfter}
 use Rattle.days.specs.declared.Totals.{Totals}
 use Rattle.days.specs.declared.Totals.the-variants.{Written}
-use Rattle.days.proofs.Records.{length-days}
+use Rattle.days.proofs.Records.{length-summary}
+use Rattle.days.proofs.Cases.{days-most}
 use Rattle.days.proofs.Ours.{ours-accepted, ours-spans}
 use Rattle.totals.specs.Reply.{replyBy, replyOf, HoldsAnyList, mostDays, HoldsAnyReply}
 
@@ -82,15 +83,10 @@ module _ (s list : List ℕ) {n k : ℕ} (h : outcomeOf s (length list) ≡ List
 
   -- a window touches at most 32 days
   few : daysOf w ≤ mostDays
-  unfolding daysBetween dayOf
-  few = omega (arith, listed-good s (length list) h .end)
+  few = days-most w (listed-good s (length list) h)
 
   abbrev summary : List ℕ
   summary = summaryOf w l
-
-  length-summary : length summary ≡ 16 * daysOf w
-  unfolding summaryOf
-  length-summary = length-days l (dayOf (w .t0)) (daysOf w)
 
   -- the job left `made` of the lent list, and all of `out` but the head's 24 bytes was lent for the summary of its records: t came of that, and `new`
   -- stands there
@@ -98,7 +94,7 @@ module _ (s list : List ℕ) {n k : ℕ} (h : outcomeOf s (length list) ≡ List
       (is-made : made ≡ listAfter s list)
       (told : t ≡ totalsOf s (take (24 * n) made) (length (take (length out - 24) (drop 24 out))))
       (left : new ≡ summaryAfter s (take (24 * n) made) (take (length out - 24) (drop 24 out)))
-      (written : days ≡ writtenOf t) where
+      (written : days ≡ numbersOf t .days) where
     abbrev lent : List ℕ
     lent = take (length out - 24) (drop 24 out)
 
@@ -109,7 +105,7 @@ module _ (s list : List ℕ) {n k : ℕ} (h : outcomeOf s (length list) ≡ List
     spans = rw is-made (ours-spans s list h)
 
     days-are : days ≡ daysOf w
-    days-are = written ∙ ap writtenOf (told ∙ accepted)
+    days-are = written ∙ ap (λ (x : Totals). numbersOf x .days) (told ∙ accepted)
 
     pub days-fit : 24 + 16 * days ≤ length out
     days-fit = omega (arith, days-are, few)
@@ -117,7 +113,7 @@ module _ (s list : List ℕ) {n k : ℕ} (h : outcomeOf s (length list) ≡ List
     -- the days stand behind the head's place
     stands : take 24 out ++ (new ++ drop (length out - 24) (drop 24 out)) ≡ sets out 24 summary
     unfolding summaryAfter
-    stands = sets-rest summary out new 24 (omega (arith, length-summary, few)) (left ∙ rw (accepted, spans) refl)
+    stands = sets-rest summary out new 24 (omega (arith, length-summary w l, few)) (left ∙ rw (accepted, spans) refl)
 
     -- and with the head they are the reply
     pub listed : (c : Interval) (after : List ℕ) → HoldsAnyList list → c ≡ closingOf (jobOf s) (Listed days k) → after ≡ writeOf (take 24 out ++ (new ++ drop (length out - 24) (drop 24 out))) 0 c → Replied s out (24 + 16 * days) after
@@ -125,5 +121,5 @@ module _ (s list : List ℕ) {n k : ℕ} (h : outcomeOf s (length list) ≡ List
     listed c after any closes put =
         let head = recordBytes c in
         let is : replyOf s ≡ head ++ summary = rw (← any, h, closes, days-are) refl in
-        let long : length (head ++ summary) ≡ 24 + 16 * days = length-append head summary ∙ omega (arith, length-record c, length-summary, days-are) in
-        replied s out (24 + 16 * days) after days-fit (sym (ap length is ∙ long)) (put ∙ rw (stands, is) (sets-before head summary out 24 (length-record c) (omega (arith, length-summary, few))))
+        let long : length (head ++ summary) ≡ 24 + 16 * days = length-append head summary ∙ omega (arith, length-record c, length-summary w l, days-are) in
+        replied s out (24 + 16 * days) after days-fit (sym (ap length is ∙ long)) (put ∙ rw (stands, is) (sets-before head summary out 24 (length-record c) (omega (arith, length-summary w l, few))))

@@ -4,7 +4,9 @@ ghost use mathlib.Core.Path.{_≡_};
 ghost use lib.ListN.{length};
 ghost use lib.Seq.{sets};
 ghost use Rattle.io.specs.Counts.{Counts};
+ghost use Rattle.days.specs.Totals.{numbersOf};
 ghost use Rattle.totals.specs.Reply.{replyOf, HoldsAnyList, HoldsAnyReply, Kept};
+use days::Totals;
 use job::Outcome;
 use libc::STDIN_FILENO;
 use libc::STDOUT_FILENO;
@@ -18,6 +20,14 @@ const INTERVAL: usize = 24;
 
 // Bytes of a day's record.
 const DAY: usize = 16;
+
+// How many days were written.
+fn written(t: Totals) -> usize
+    ensures { λ n. ⌜ n ≡ numbersOf t .days ⌝ }
+{
+    let n = days::told(t);
+    n.days
+}
 
 // The reply to a piece of the input, from byte 0 of `out`, and how many bytes it has. The list is made in `list`; the days' records are worked out from
 // it behind the head, which tells how many they are. A refused job has the record that `lists` writes and no other.
@@ -34,7 +44,7 @@ fn reply(s: &[u8], list: &mut [u8], out: &mut [u8]) -> usize
         }
         Outcome::Listed { intervals, asked } => {
             let end = INTERVAL * intervals;
-            let days = days::written(days::summary(s, &list[..end], &mut out[HEAD..]));
+            let days = written(days::summary(s, &list[..end], &mut out[HEAD..]));
             let head = Outcome::Listed {
                 intervals: days,
                 asked,

@@ -13,15 +13,15 @@ use Rattle.totals.proofs.reply.Statement.{statement}
 use Rattle.totals.proofs.reply.Tie as tie
 
 -- the job's list was made
-told : (c : tie.After-intervals) → let a = c .before .before .before .before .before .before .before .before .before .before .args in outcomeOf (a .s .now) (length (a .list .now)) ≡ Listed (c .intervals .given .0 .0) (c .intervals .given .0 .1 .0)
-told c = sym (c .before .before .before .before .list .ensures .0) ∙ c .intervals .given .1
+made : (c : tie.After-intervals) → let a = c .before .before .before .before .before .before .before .before .before .before .args in outcomeOf (a .s .now) (length (a .list .now)) ≡ Listed (c .intervals .given .0 .0) (c .intervals .given .0 .1 .0)
+made c = sym (c .before .before .before .before .list .ensures .0) ∙ c .intervals .given .1
 
 -- its records are in the lent list
 within : (c : tie.After-intervals) → 24 * c .intervals .given .0 .0 ≤ length (c .before .before .before .before .list .last .1 .0)
 within c =
     let li = c .before .before .before .before in
     let a = li .before .before .before .before .before .before .args in
-    let i = inside (a .s .now) (a .list .now) (told c) (li .list .ensures .1) in
+    let i = inside (a .s .now) (a .list .now) (made c) (li .list .ensures .1) in
     omega arith
 
 -- and the head and the days in the lent bytes
@@ -32,7 +32,7 @@ fits c =
     let li = iv .before .before .before .before in
     let start = li .before .before .before .before .before .before in
     let a = start .args in
-    days-fit (a .s .now) (a .list .now) (told iv) _ (a .out .now) (start .pre .1) _ _ _ (li .list .ensures .1) (su .summary .ensures .0) (su .summary .ensures .1) (c .written .ensures)
+    days-fit (a .s .now) (a .list .now) (made iv) _ (a .out .now) (start .pre .1) _ _ _ (li .list .ensures .1) (su .summary .ensures .0) (su .summary .ensures .1) (c .written .ensures)
 
 job-number-requires : tie.Need-job-number-requires
 job-number-requires c κs = search needs
@@ -124,7 +124,7 @@ returns-2 c =
     let start = jn .before .before .before .before in
     let a = start .args in
     let closes = cl .closing2 .ensures ∙ ap (λ j. closingOf j (Listed (wr .written .result) (iv .intervals .given .0 .1 .0))) (jn .job-number .ensures) in
-    listed (a .s .now) (a .list .now) (told iv) _ (a .out .now) (start .pre .1) _ _ _ (li .list .ensures .1) (su .summary .ensures .0) (su .summary .ensures .1) (wr .written .ensures) _ _ (start .pre .0) closes (put .write2 .ensures)
+    listed (a .s .now) (a .list .now) (made iv) _ (a .out .now) (start .pre .1) _ _ _ (li .list .ensures .1) (su .summary .ensures .0) (su .summary .ensures .1) (wr .written .ensures) _ _ (start .pre .0) closes (put .write2 .ensures)
 
 pub reply-spec : {M : Type 1} → statement M
 reply-spec =

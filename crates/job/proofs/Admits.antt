@@ -2,14 +2,14 @@
 use Prim.Native.Nat.{ℕ}
 use mathlib.Core.Path.{_≡_, refl, sym, ap, _∙_}
 use mathlib.Core.Logic.{_↔_}
-use mathlib.Core.List.{List, [], _∷_}
+use mathlib.Core.List.{List, [], _∷_, _++_}
 use native.Mathlib.Omega.{arith}
 use Rattle.refusal.specs.Rows.{_then_, first, rowAt}
 use Rattle.refusal.specs.declared.Refusal.{Refusal}
 use Rattle.refusal.specs.declared.Verdict.{Verdict}
 use Rattle.refusal.specs.declared.Verdict.the-variants as verdict
 use Rattle.refusal.proofs.Order.{first-append, then-assoc, then-passed, stops, goes, first-exactly, passed-exactly}
-use Rattle.elements.specs.Reading.{recordRows, elementsOf, readingOf}
+use Rattle.elements.specs.Reading.{fieldRows, recordRows, elementsOf, readingOf}
 use Rattle.elements.specs.declared.reading.Elements.{Elements}
 use Rattle.elements.specs.declared.reading.Reading.the-variants as reading
 use Rattle.elements.proofs.Rows.{ordered}
@@ -44,13 +44,19 @@ any-room w q = before-parts w q roomForAny ∙ by (windowRow w then stepRow w) r
     by (verdict.Refused x) h = refl
 
 module _ (s : List ℕ) where
-  -- and the table without 9 is rows 1 to 5, then rows 6 to 8
+  -- the rows but 9
+  rows-but-room : tableButRoom s ≡ recordRows s ++ (windowRow (windowOf s) ∷ stepRow (windowOf s) ∷ questionRow (questionOf s) ∷ keplerRow (elementsOf s) (windowOf s) ∷ [])
+  unfolding tableButRoom tableOf fieldRows
+  rows-but-room = refl
+
+  -- are rows 1 to 5, then rows 6 to 8
   admit-parts : first (tableButRoom s) ≡ (first (recordRows s) then windowToQuestion (windowOf s) (questionOf s))
-  unfolding tableButRoom first _then_
+  unfolding first _then_
   admit-parts =
       let w = windowOf s in
       let q = questionOf s in
-      first-append (recordRows s) (windowRow w ∷ stepRow w ∷ questionRow q ∷ keplerRow (elementsOf s) w ∷ [])
+      ap first rows-but-room
+      ∙ first-append (recordRows s) (windowRow w ∷ stepRow w ∷ questionRow q ∷ keplerRow (elementsOf s) w ∷ [])
       ∙ ap (λ (v : Verdict). first (recordRows s) then (windowRow w then stepRow w then questionRow q then (v then verdict.Passed))) (kepler-passes (elementsOf s) w)
       ∙ ap (λ (v : Verdict). first (recordRows s) then (windowRow w then stepRow w then v)) (then-passed (questionRow q))
 

@@ -1,9 +1,11 @@
 -- The table of refusals, in order (document 01, "Turned away").
-use Prim.Native.Nat.{ℕ}
+use Prim.Native.Nat.{ℕ, suc}
 use mathlib.Core.Bool.{Bool, not, _&&_, _||_}
 use mathlib.Core.List.{List, [], _∷_, _++_}
 use lib.Dec.{eqb, ltb, leb}
+use lib.ListN.{take, drop}
 use Rattle.words.specs.Little.{readOf}
+use Rattle.refusal.specs.Refusal.{orderOf}
 use Rattle.refusal.specs.Rows.{when}
 use Rattle.refusal.specs.declared.Refusal.the-variants as refusal
 use Rattle.refusal.specs.declared.Verdict.{Verdict}
@@ -75,11 +77,9 @@ tableOf s room =
     let w = windowOf s in
     recordRows s ++ (windowRow w ∷ stepRow w ∷ questionRow (questionOf s) ∷ roomRow w room ∷ keplerRow (elementsOf s) w ∷ [])
 
--- the same but for 9, which is given only where a list is written (document 02, wish 3)
+-- every row but 9, which is given only where a list is written (document 02, wish 3); the room, which no other row asks for, is 0
 unfoldable pub tableButRoom : List ℕ → List Verdict
-tableButRoom s =
-    let w = windowOf s in
-    recordRows s ++ (windowRow w ∷ stepRow w ∷ questionRow (questionOf s) ∷ keplerRow (elementsOf s) w ∷ [])
+tableButRoom s = take (orderOf refusal.Room) (tableOf s 0) ++ drop (suc (orderOf refusal.Room)) (tableOf s 0)
 
 -- ---- parts of it, for the contracts of private functions
 

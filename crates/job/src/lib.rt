@@ -40,9 +40,6 @@ const LONGEST_STEP: u64 = 1_048_576;
 
 const MOST_STEPS: u64 = 4096;
 
-// Room for the list of any window that rows 6 and 7 let through: 2,049 intervals.
-const ROOM_FOR_ANY: usize = 49176;
-
 // A record's job number, window and step.
 fn window(s: &[u8]) -> Window
     requires { ⌜ WholeRecord (now s) ⌝ }
@@ -171,11 +168,12 @@ pub fn list(s: &[u8], list: &mut [u8]) -> Outcome
 
 // ---- whether a record is accepted
 
-// Rows 6 to 8, and the window. With room for any list row 9 passes, and Kepler's search always settles, so nothing is asked for row 10.
+// Rows 6 to 8, and the window. Nothing is asked for row 10: Kepler's search always settles.
 fn admit_window(w: Window, question: u32) -> Admission
     ensures { λ r. ⌜ r ≡ admissionFrom (windowRow w then stepRow w then questionRow question) w ⌝ }
 {
-    match before_search(w, question, ROOM_FOR_ANY) {
+    let v = window_and_step(w);
+    match then(v, row(bad_question(question), Refusal::Question)) {
         Verdict::Refused(r) => Admission::TurnedAway(r),
         Verdict::Passed => Admission::Admitted(w),
     }

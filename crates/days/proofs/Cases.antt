@@ -17,16 +17,17 @@ use Rattle.job.specs.Admission.{admissionOf}
 use Rattle.job.specs.declared.Admission.the-variants.{Admitted, TurnedAway}
 use Rattle.job.proofs.Admits.{admitted-good}
 use Rattle.days.specs.Days.{dayOf, daysBetween, daysOf}
-use Rattle.days.specs.Summary.{summaryOf, updated}
-use Rattle.days.specs.Given.{spanAt, spansOf, badSpan, badSpans, badList, nextFrom, same, badAppend}
-use Rattle.days.specs.Totals.{shortRoom, totalsBy, totalsOf, appendOf, leftBy, summaryAfter, appendAfter}
-use Rattle.days.specs.State.{HasRoom, Awaits, workedOf, SummedUp}
+use Rattle.days.specs.Summary.{summaryOf}
+use Rattle.days.specs.Given.{spanAt, spansOf, badSpan, badSpans, badList, same, badAppend}
+use Rattle.days.specs.Totals.{shortRoom, totalsBy, leftBy}
+use Rattle.days.specs.State.{nextFrom, HasRoom, Awaits, workedOf, SummedUp}
 use Rattle.days.specs.declared.Totals.{Totals}
 use Rattle.days.specs.declared.Totals.the-variants.{Written, Job, SummaryRoom, BadList}
 use Rattle.days.specs.declared.Worked.{Worked}
 use Rattle.days.specs.declared.Worked.the-variants.{Ordered, Bad}
 use Rattle.days.proofs.Bools.{neither, or-true, not-not}
 use Rattle.days.proofs.Sames.{same-is}
+use Rattle.days.proofs.Longer.{longer-is}
 use Rattle.days.proofs.Records.{length-summary}
 use Rattle.days.proofs.Working.{summary-set}
 
@@ -77,41 +78,48 @@ module _ (w : Window) (list piece summary : List ℕ) where
   abbrev follows : Bool
   follows = not (badAppend w list piece summary)
 
-  pub list-bad : badList w list ≡ true → false ≡ follows
-  unfolding badAppend
-  list-bad h = rw h refl
-
   pub piece-bad : (length piece ≡ 24 → ⊥) → false ≡ follows
   unfolding badAppend
-  piece-bad h = rw (ne-eqb (length piece) 24 h, or-true (badList w list)) refl
+  piece-bad h = rw (ne-eqb (length piece) 24 h) refl
 
-  pub next-bad : badSpan (nextFrom (w .t0) (spansOf list)) (w .t1) (spanAt piece 0) ≡ true → false ≡ follows
-  unfolding badAppend
-  next-bad h = rw (h, or-true (badList w list || not (eqb (length piece) 24))) refl
+  module _ (one : length piece ≡ 24) where
+    pub next-bad : badSpan (nextFrom (w .t0) (spansOf list)) (w .t1) (spanAt piece 0) ≡ true → false ≡ follows
+    unfolding badAppend
+    next-bad h = rw (eq-eqb (length piece) 24 one, longer-is w list piece one, h, or-true (badList w list)) refl
 
-  pub else-same : badList w list ≡ false → length piece ≡ 24 → badSpan (nextFrom (w .t0) (spansOf list)) (w .t1) (spanAt piece 0) ≡ false → same summary (summaryOf w (spansOf list)) ≡ follows
+    pub else-same : badList w list ≡ false → badSpan (nextFrom (w .t0) (spansOf list)) (w .t1) (spanAt piece 0) ≡ false → same summary (summaryOf w (spansOf list)) ≡ follows
+    unfolding badAppend
+    else-same h g = rw (eq-eqb (length piece) 24 one, longer-is w list piece one, h, g) (not-not (same summary (summaryOf w (spansOf list))))
+
+  pub list-bad : badList w list ≡ true → false ≡ follows
   unfolding badAppend
-  else-same h long g = rw (h, eq-eqb (length piece) 24 long, g) (not-not (same summary (summaryOf w (spansOf list))))
+  list-bad h = by (eqb (length piece) 24) refl
+    where
+      by : (t : Bool) → eqb (length piece) 24 ≡ t → false ≡ not (not t || badList w (list ++ piece) || not (same summary (summaryOf w (spansOf list))))
+      by true e = rw (longer-is w list piece (eqb-true (length piece) 24 e), h) refl
+      by false e = refl
 
 -- the intervals of a good list are not bad
 pub list-order : (w : Window) (list : List ℕ) → badList w list ≡ false → badSpans (w .t0) (w .t1) (spansOf list) ≡ false
 unfolding badList
 list-order w list h = neither {a = not (eqb (length list % 24) 0)} h .1
 
-pub append-list : (w : Window) (list piece summary : List ℕ) → badAppend w list piece summary ≡ false → badList w list ≡ false
-unfolding badAppend
-append-list w list piece summary h = neither (neither (neither h .0) .0) .0
+-- a piece that may be appended is one interval, which awaits behind a good list whose summary stands in the lent bytes; and the longer list is good
+pub record Follows (w : Window) (list piece lent : List ℕ) : Type 0 where
+  pub one : length piece ≡ 24
+  pub list-good : badList w list ≡ false
+  pub longer-good : badList w (list ++ piece) ≡ false
+  pub awaits : Awaits w (spansOf list) (spanAt piece 0) lent
 
--- a piece that may be appended is one interval, which awaits behind a good list whose summary stands in the lent bytes
-pub good-append : (w : Window) (list piece lent : List ℕ) → Good w → badAppend w list piece (take (16 * daysOf w) lent) ≡ false → (length piece ≡ 24) × Awaits w (spansOf list) (spanAt piece 0) lent
+pub good-append : (w : Window) (list piece lent : List ℕ) → Good w → badAppend w list piece (take (16 * daysOf w) lent) ≡ false → Follows w list piece lent
 unfolding badAppend
 good-append w list piece lent good h =
     let a = neither h in
     let b = neither (a .0) in
-    let c = neither (b .0) in (
-      eqb-true (length piece) 24 (not-false (eqb (length piece) 24) (c .1)),
-      record { good = good; before = list-order w list (c .0); next = b .1; stands = same-is (take (16 * daysOf w) lent) (summaryOf w (spansOf list)) (not-false (same (take (16 * daysOf w) lent) (summaryOf w (spansOf list))) (a .1)) },
-    )
+    let one = eqb-true (length piece) 24 (not-false (eqb (length piece) 24) (b .0)) in
+    let both = neither {a = badList w list} (sym (longer-is w list piece one) ∙ b .1) in
+    let stands = same-is (take (16 * daysOf w) lent) (summaryOf w (spansOf list)) (not-false (same (take (16 * daysOf w) lent) (summaryOf w (spansOf list))) (a .1)) in
+    record { one = one; list-good = both .0; longer-good = b .1; awaits = record { good = good; before = list-order w list (both .0); next = both .1; stands = stands } }
 
 -- ---- the answer of an admitted job
 
@@ -130,27 +138,18 @@ module _ (w : Window) (room : ℕ) (bad : Window → Bool) where
 
 -- ---- by the record
 
-module _ (s list lent : List ℕ) where
-  -- the job's own refusal leaves every byte
-  pub summary-away : (r : Refusal) → admissionOf s ≡ TurnedAway r → (Job r ≡ totalsOf s list (length lent)) × (lent ≡ summaryAfter s list lent)
-  unfolding summaryAfter totalsOf totalsBy
-  summary-away r h = rw h (refl, refl)
+-- of any call: what makes 12, and the bytes that it writes
+module _ (s lent : List ℕ) (bad : Window → Bool) (new : Window → List ℕ) where
+  abbrev answer : Totals
+  answer = totalsBy (admissionOf s) (length lent) bad
 
-  pub append-away : (piece : List ℕ) (r : Refusal) → admissionOf s ≡ TurnedAway r → (Job r ≡ appendOf s list piece lent) × (lent ≡ appendAfter s list piece lent)
-  unfolding appendAfter appendOf totalsBy
-  append-away piece r h = rw h (refl, refl)
+  -- the job's own refusal leaves every byte
+  pub away : (r : Refusal) → admissionOf s ≡ TurnedAway r → (Job r ≡ answer) × (lent ≡ leftBy answer (new (windowOf s)) lent)
+  unfolding totalsBy
+  away r h = rw h (refl, refl)
 
   -- an admitted job is answered by its window
-  pub summary-by : (w : Window) (t : Totals) (after : List ℕ) → admissionOf s ≡ Admitted w → t ≡ totalsBy (Admitted w) (length lent) (λ v. badList v list)
-      → after ≡ leftBy t (sets lent 0 (summaryOf w (spansOf list))) lent → (t ≡ totalsOf s list (length lent)) × (after ≡ summaryAfter s list lent)
-  unfolding summaryAfter totalsOf
-  summary-by w t after h told left =
-      let own : w ≡ windowOf s = admitted-good s h .0 in
-      (told ∙ rw h refl, left ∙ rw (own, told, h) refl)
-
-  pub append-by : (piece : List ℕ) (w : Window) (t : Totals) (after : List ℕ) → admissionOf s ≡ Admitted w → t ≡ totalsBy (Admitted w) (length lent) (λ v. badAppend v list piece (take (16 * daysOf v) lent))
-      → after ≡ leftBy t (updated w (spansOf list) (spanAt piece 0) lent) lent → (t ≡ appendOf s list piece lent) × (after ≡ appendAfter s list piece lent)
-  unfolding appendAfter appendOf
-  append-by piece w t after h told left =
+  pub let-in : (w : Window) (t : Totals) (after : List ℕ) → admissionOf s ≡ Admitted w → t ≡ totalsBy (Admitted w) (length lent) bad → after ≡ leftBy t (new w) lent → (t ≡ answer) × (after ≡ leftBy answer (new (windowOf s)) lent)
+  let-in w t after h told left =
       let own : w ≡ windowOf s = admitted-good s h .0 in
       (told ∙ rw h refl, left ∙ rw (own, told, h) refl)

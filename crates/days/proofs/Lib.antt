@@ -8,10 +8,10 @@ pub mod Updates
 pub mod Adding
 pub mod Sames
 pub mod Working
+pub mod Longer
 pub mod Cases
 pub mod Sums
 pub mod Ours
-pub mod Longer
 pub mod Answered
 pub mod Only
 pub mod Promises

@@ -9,7 +9,8 @@ use lib.Dec.{leb}
 use lib.ListN.{length}
 use Rattle.finder.specs.Spans.{Span}
 use Rattle.finder.specs.Fits.{InOrder, within, listed}
-use Rattle.days.specs.Given.{badSpan, badSpans, nextFrom}
+use Rattle.days.specs.Given.{badSpan, badSpans}
+use Rattle.days.specs.State.{nextFrom}
 use Rattle.days.proofs.Bools.{neither, both, or-assoc, or-false}
 
 -- ---- one interval

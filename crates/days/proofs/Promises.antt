@@ -1,7 +1,7 @@
 -- What is promised of the totals by day: each part a theorem about the contracts of `days::summary` and `days::append`, for every record's bytes,
 -- every list's bytes and every lent summary. docs/PROMISES.md leads here. The statements' words stand in
 --   totalsOf, appendOf, summaryAfter, appendAfter, numbersOf                            days/specs/Totals.antt
---   summaryOf, dayRecord                      days/specs/Summary.antt     touches, touching, instantsIn, sumFrom, instantsOf   days/specs/Counts.antt
+--   summaryOf, dayRecord                      days/specs/Summary.antt     touches, touching, instantsIn, sumFrom, instantsListed   days/specs/Counts.antt
 --   spansOf, spanAt, badList, badAppend       days/specs/Given.antt       dayOf, daysOf                                        days/specs/Days.antt
 --   admissionOf                               job/specs/Admission.antt    windowOf, roomForAny                                 job/specs, finder/specs
 --   outcomeOf, listAfter, answersIn           job/specs/Outcome.antt      listOf                                               finder/specs/Spans.antt
@@ -27,10 +27,9 @@ use Rattle.job.specs.declared.Admission.the-variants.{Admitted}
 use Rattle.job.specs.declared.Outcome.the-variants.{Listed, Refused}
 use Rattle.job.proofs.Admits.{admitted-good, away-exactly}
 use Rattle.days.specs.Days.{dayOf, daysBetween, daysOf}
-use Rattle.days.specs.Counts.{touches, sumFrom, instantsOf}
+use Rattle.days.specs.Counts.{touches, sumFrom, instantsListed}
 use Rattle.days.specs.Summary.{dayRecord, summaryOf}
 use Rattle.days.specs.Given.{spanAt, spansOf, badList, badAppend}
-use Rattle.days.specs.State.{Awaits}
 use Rattle.days.specs.Totals.{numbersOf, totalsOf, appendOf, leftBy, summaryAfter, appendAfter}
 use Rattle.days.specs.declared.Totals.{Totals}
 use Rattle.days.specs.declared.Totals.the-variants.{Written, Job, SummaryRoom, BadList}
@@ -40,10 +39,10 @@ use Rattle.days.proofs.Touched.{touch-yes, touched}
 use Rattle.days.proofs.Working.{summary-set, summary-day}
 use Rattle.days.proofs.Records.{day-stays}
 use Rattle.days.proofs.Updates as updates
-use Rattle.days.proofs.Cases.{list-order, append-list, good-append}
+use Rattle.days.proofs.Cases.{list-order, Follows, good-append}
 use Rattle.days.proofs.Sums.{sum-all}
 use Rattle.days.proofs.Ours as ours
-use Rattle.days.proofs.Longer.{longer-good, longer-summary}
+use Rattle.days.proofs.Longer.{longer-summary}
 use Rattle.days.proofs.summary.Kinds as summary
 use Rattle.days.proofs.summary.Reads as summary-reads
 use Rattle.days.proofs.append.Kinds as append
@@ -141,7 +140,7 @@ module _ (s list old : List ℕ) (t : Totals) (new : List ℕ) (call : Summary s
     day-by-day i below = ap (λ (x : List ℕ). take 16 (drop (16 * i) x)) summary-then-rest ∙ summary-day w l i (drop (16 * n) old) (rw (found .3) at below)
 
     -- the sum of all days' instants is the instants of the list
-    pub sum-of-days : sumFrom l (dayOf (w .t0)) n ≡ instantsOf l
+    pub sum-of-days : sumFrom l (dayOf (w .t0)) n ≡ instantsListed l
     sum-of-days =
         let good = admitted-good s (found .0) .1 in
         rw (found .3) (sum-all w l good (good-in-order (w .t0) (w .t1) l (list-order w list (found .2))))
@@ -203,23 +202,22 @@ module _ (s list piece old : List ℕ) (t : Totals) (new : List ℕ) (call : App
     taken = answered.written-exactly s (length old) (λ v. badAppend v list piece (take (16 * daysOf v) old)) n .0 (sym (call .answer) ∙ h)
 
     -- so the piece is one interval that awaits behind a good list
-    awaits : (length piece ≡ 24) × Awaits (windowOf s) (spansOf list) (spanAt piece 0) old
-    awaits = good-append (windowOf s) list piece old (admitted-good s (taken .0) .1) (taken .2)
+    follows : Follows (windowOf s) list piece old
+    follows = good-append (windowOf s) list piece old (admitted-good s (taken .0) .1) (taken .2)
 
     -- what is answered and what is left are those of the longer list, worked out afresh in the same bytes
     pub afresh : (t ≡ totalsOf s (list ++ piece) (length old)) × (new ≡ summaryAfter s (list ++ piece) old)
     unfolding appendAfter summaryAfter totalsOf
     afresh =
-        let good = append-list (windowOf s) list piece (take (16 * daysOf (windowOf s)) old) (taken .2) in
-        let longer = answered.written-exactly s (length old) (λ v. badList v (list ++ piece)) n .1 (taken .0, taken .1, longer-good (windowOf s) list piece old good (awaits .0) (awaits .1), taken .3) in
-        (h ∙ sym longer, call .bytes ∙ rw (sym (call .answer) ∙ h, longer) (longer-summary (windowOf s) list piece old good (awaits .0) (awaits .1)))
+        let longer = answered.written-exactly s (length old) (λ v. badList v (list ++ piece)) n .1 (taken .0, taken .1, follows .longer-good, taken .3) in
+        (h ∙ sym longer, call .bytes ∙ rw (sym (call .answer) ∙ h, longer) (longer-summary (windowOf s) list piece (follows .one) old (follows .list-good) (follows .awaits)))
 
     -- the record of a day that the interval does not touch is as it was
     pub untouched : (i : ℕ) → i < n → touches (spanAt piece 0) (dayOf (windowOf s .t0) + i) ≡ false → take 16 (drop (16 * i) new) ≡ take 16 (drop (16 * i) old)
     unfolding appendAfter
     untouched i below none =
         let w = windowOf s in
-        let a = awaits .1 in
+        let a = follows .awaits in
         let inside : i < daysOf w = rw (taken .3) at below in
         let wrote : new ≡ summaryOf w (spansOf list ++ spanAt piece 0 ∷ []) ++ drop (16 * daysOf w) old = call .bytes ∙ rw (sym (call .answer) ∙ h) (updates.afresh w (spansOf list) (spanAt piece 0) old a) in
         ap (λ (x : List ℕ). take 16 (drop (16 * i) x)) wrote

@@ -17,7 +17,8 @@ use Rattle.finder.specs.Fits.{listed}
 use Rattle.days.specs.Days.{dayLength, dayOf, startOf, daysOf}
 use Rattle.days.specs.Counts.{instantsIn, instantsUnder, touches, touching}
 use Rattle.days.specs.Summary.{dayBytes, dayRecord, recordsFrom, summaryOf}
-use Rattle.days.specs.Given.{badSpan, badSpans, nextFrom}
+use Rattle.days.specs.Given.{badSpan, badSpans}
+use Rattle.days.specs.State.{nextFrom}
 use Rattle.days.proofs.Counting.{count-none}
 use Rattle.days.proofs.Touched.{stay}
 

@@ -10,7 +10,8 @@ use Rattle.finder.specs.Spans.{Span}
 use Rattle.finder.specs.Fits.{within, listed}
 use Rattle.days.specs.Days.{dayLength, dayOf, startOf}
 use Rattle.days.specs.Counts.{instantsIn, instantsUnder, touches, touching}
-use Rattle.days.specs.Given.{badSpan, badSpans, nextFrom}
+use Rattle.days.specs.Given.{badSpan, badSpans}
+use Rattle.days.specs.State.{nextFrom}
 use Rattle.days.proofs.Counting.{count-either, count-within, count-most, bit-most}
 use Rattle.days.proofs.Orderly.{apart, listed-more}
 

@@ -14,8 +14,7 @@ use Rattle.finder.specs.Spans.{Span}
 use Rattle.days.specs.Days.{dayOf, daysBetween, daysOf}
 use Rattle.days.specs.Counts.{instantsIn, instantsUnder, touches, touching}
 use Rattle.days.specs.Summary.{dayBytes, dayRecord, recordsFrom, summaryOf, updated}
-use Rattle.days.specs.Given.{nextFrom}
-use Rattle.days.specs.State.{Awaits}
+use Rattle.days.specs.State.{nextFrom, Awaits}
 use Rattle.days.proofs.Orderly.{good-span, next-far}
 use Rattle.days.proofs.Touched.{touch-yes, none-before, none-after, touching-more, instants-more, stay, touching-most, instants-most}
 use Rattle.days.proofs.Records.{length-days, length-summary, days-add, day-one, days-same}

@@ -14,8 +14,8 @@ use Rattle.finder.specs.Spans.{Span, span}
 use Rattle.days.specs.Days.{dayOf, daysOf}
 use Rattle.days.specs.Counts.{touching, instantsIn}
 use Rattle.days.specs.Summary.{dayRecord, recordsFrom, summaryOf}
-use Rattle.days.specs.Given.{spanAt, spansFrom, spansOf, badSpan, badSpans, badList, nextFrom}
-use Rattle.days.specs.State.{HasRoom, Awaits, Updated, workedOf, SummedUp}
+use Rattle.days.specs.Given.{spanAt, spansFrom, spansOf, badSpan, badSpans, badList}
+use Rattle.days.specs.State.{nextFrom, HasRoom, Awaits, Updated, workedOf, SummedUp}
 use Rattle.days.specs.declared.Worked.the-variants.{Ordered, Bad}
 use Rattle.days.proofs.Bools.{or-true}
 use Rattle.days.proofs.Orderly.{bad-append, bad-one, next-one}

@@ -37,6 +37,6 @@ sumFrom l d zero = 0
 sumFrom l d (suc n) = instantsIn l d + sumFrom l (suc d) n
 
 -- the instants of a list: those of each interval, whose first and last both belong to it
-unfoldable pub instantsOf : List Span → ℕ
-instantsOf [] = 0
-instantsOf (s ∷ l) = (s .last - s .first + 1) + instantsOf l
+unfoldable pub instantsListed : List Span → ℕ
+instantsListed [] = 0
+instantsListed (s ∷ l) = (s .last - s .first + 1) + instantsListed l

@@ -23,6 +23,10 @@ daysBetween a b = dayOf b - dayOf a + 1
 abbrev pub daysOf : Window → ℕ
 daysOf w = daysBetween (w .t0) (w .t1)
 
--- and how many an interval does
+-- at most so many: those of 31 days, and one more where it ends at their very end
+abbrev pub mostDays : ℕ
+mostDays = 32
+
+-- and how many days an interval touches
 abbrev pub daysUnder : Span → ℕ
 daysUnder s = daysBetween (s .first) (s .last)

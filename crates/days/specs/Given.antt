@@ -1,7 +1,7 @@
 -- What may be given as a list, as one interval more and as a summary (document 02, wish 3, refusal 12).
 use Prim.Native.Nat.{ℕ, zero, suc, _+_, _*_, _/_, _%_}
 use mathlib.Core.Bool.{Bool, true, false, not, _&&_, _||_}
-use mathlib.Core.List.{List, [], _∷_}
+use mathlib.Core.List.{List, [], _∷_, _++_}
 use lib.Dec.{eqb, ltb}
 use lib.ListN.{length}
 use Rattle.words.specs.Little.{readOf}
@@ -26,11 +26,11 @@ spansOf list = spansFrom list 0 (length list / 24)
 
 -- ---- refusal 12
 
--- last before first; or first before `low`, where an interval may begin; or last outside the window, which ends at `high`
+-- last before first; or outside the window, which ends at `high`, or under two instants after the one before: first is before `low`
 unfoldable pub badSpan : ℕ → ℕ → Span → Bool
 badSpan low high s = ltb (s .last) (s .first) || ltb (s .first) low || ltb high (s .last)
 
--- an interval may begin two instants after the one before, and the first of them at `low`
+-- `low` is t0 for the first of them, and for each other two instants after the one before
 unfoldable pub badSpans : ℕ → ℕ → List Span → Bool
 badSpans low high [] = false
 badSpans low high (s ∷ l) = badSpan low high s || badSpans (s .last + 2) high l
@@ -39,11 +39,6 @@ badSpans low high (s ∷ l) = badSpan low high s || badSpans (s .last + 2) high 
 unfoldable pub badList : Window → List ℕ → Bool
 badList w list = not (eqb (length list % 24) 0) || badSpans (w .t0) (w .t1) (spansOf list)
 
--- where an interval behind these may begin
-unfoldable pub nextFrom : ℕ → List Span → ℕ
-nextFrom low [] = low
-nextFrom low (s ∷ l) = nextFrom (s .last + 2) l
-
 -- the same bytes
 unfoldable pub same : List ℕ → List ℕ → Bool
 same [] [] = true
@@ -51,7 +46,6 @@ same [] (y ∷ ys) = false
 same (x ∷ xs) [] = false
 same (x ∷ xs) (y ∷ ys) = eqb x y && same xs ys
 
--- a bad list; or a piece that is not one record, or is a bad interval behind the list; or a summary not the list's
+-- an appended piece that is not one record; or the longer list, the piece behind the list, is bad; or a summary not the list's
 unfoldable pub badAppend : Window → List ℕ → List ℕ → List ℕ → Bool
-badAppend w list piece summary =
-    badList w list || not (eqb (length piece) 24) || badSpan (nextFrom (w .t0) (spansOf list)) (w .t1) (spanAt piece 0) || not (same summary (summaryOf w (spansOf list)))
+badAppend w list piece summary = not (eqb (length piece) 24) || badList w (list ++ piece) || not (same summary (summaryOf w (spansOf list)))

@@ -4,13 +4,13 @@ use mathlib.Core.Path.{_≡_, refl, sym, subst, _∙_}
 use mathlib.Core.Bool.{false}
 use native.Mathlib.Omega.{arith}
 use borrow.Author.Tests.{not-true, not-false}
-use lib.ListN.{length, take}
+use lib.ListN.{take}
 use lib.Seq.{length-take-le}
 use Rattle.finder.specs.Spans.{Span, span}
 use Rattle.days.specs.Days.{daysOf}
 use Rattle.days.specs.Given.{spanAt, spansOf, badAppend}
 use Rattle.days.specs.State.{Awaits}
-use Rattle.days.proofs.Cases.{days-most, good-append, answer-short, answer-bad, answer-written}
+use Rattle.days.proofs.Cases.{days-most, Follows, good-append, answer-short, answer-bad, answer-written}
 use borrow.Author.Needs.{needs}
 use Rattle.days.proofs.append_in.Statement.{statement}
 use Rattle.days.proofs.append_in.Tie as tie
@@ -27,7 +27,7 @@ good c =
     not-true _ (sym (rw (counted .days .ensures) at (spoke .follows .ensures)) ∙ not-false _ (c .if2 .left))
 
 -- so it awaits
-awaits : (c : tie.Else2) → let a = start-of (c .before .before .before .before) .args in (length (a .piece .now) ≡ 24) × Awaits (a .w) (spansOf (a .list .now)) (spanAt (a .piece .now) 0) (a .out .now)
+awaits : (c : tie.Else2) → let a = start-of (c .before .before .before .before) .args in Follows (a .w) (a .list .now) (a .piece .now) (a .out .now)
 awaits c = good-append _ _ _ _ (start-of (c .before .before .before .before) .pre) (good c)
 
 -- the interval that was read
@@ -37,7 +37,7 @@ is-span c = rw (c .before .read8 .ensures, c .read82 .ensures) refl
 
 -- is the one that awaits
 waits : (c : tie.After-read82) → let a = start-of (c .before .before .before .before .before .before .before) .args in Awaits (a .w) (spansOf (a .list .now)) (span (c .before .read8 .result) (c .read82 .result)) (a .out .now)
-waits c = let a = start-of (c .before .before .before .before .before .before .before) .args in subst (λ (s : Span). Awaits (a .w) (spansOf (a .list .now)) s (a .out .now)) (sym (is-span c)) (awaits (c .before .before .before) .1)
+waits c = let a = start-of (c .before .before .before .before .before .before .before) .args in subst (λ (s : Span). Awaits (a .w) (spansOf (a .list .now)) s (a .out .now)) (sym (is-span c)) (awaits (c .before .before .before) .awaits)
 
 days-requires : tie.Need-days-requires
 days-requires c κs = search needs
@@ -70,10 +70,10 @@ returns-2 c =
     (answer-bad _ _ _ (omega (arith, counted .days .ensures)) bad, refl)
 
 read8-requires : tie.Need-read8-requires
-read8-requires c κs = omega (arith, awaits (c .before) .0)
+read8-requires c κs = omega (arith, awaits (c .before) .one)
 
 read8-requires-2 : tie.Need-read8-requires-2
-read8-requires-2 c κs = omega (arith, awaits (c .before .before) .0)
+read8-requires-2 c κs = omega (arith, awaits (c .before .before) .one)
 
 add-requires : tie.Need-add-requires
 add-requires c κs = (_, waits c)

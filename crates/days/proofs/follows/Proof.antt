@@ -3,7 +3,8 @@ use mathlib.Core.Path.{_≡_, refl, sym, _∙_}
 use mathlib.Core.Bool.{false}
 use native.Mathlib.Omega.{arith}
 use lib.Seq.{length-take-le}
-use Rattle.days.specs.Given.{spanAt, spansOf, badSpan, badList, nextFrom}
+use Rattle.days.specs.Given.{spanAt, spansOf, badSpan, badList}
+use Rattle.days.specs.State.{nextFrom}
 use Rattle.days.proofs.Cases.{days-most, has-room, worked-summary, told-bad, told-good, list-bad, piece-bad, next-bad, else-same}
 use borrow.Author.Needs.{needs}
 use Rattle.days.proofs.follows.Statement.{statement}
@@ -56,7 +57,7 @@ bad-span-requires : tie.Need-bad-span-requires
 bad-span-requires c κs = search needs
 
 returns-2 : tie.Need-returns-2
-returns-2 c = next-bad _ _ _ _ (sym (next-told (c .before)) ∙ c .if2 .taken)
+returns-2 c = next-bad _ _ _ _ (c .before .before .before .before .if1 .left) (sym (next-told (c .before)) ∙ c .if2 .taken)
 
 array-share-prefix-own : tie.Need-array-share-prefix-own
 array-share-prefix-own c =
@@ -86,7 +87,7 @@ returns-4 c =
     let counted = worked .before .before in
     let a = start-of counted .args in
     let own = worked-summary (a .w) (a .list .now) _ _ (worked .work-out .ensures .1) (list .0) (start-of counted .pre) refl (counted .days .ensures) in
-    c .same-bytes .ensures ∙ rw own (else-same _ _ _ _ (list .0) (size .if1 .left) (sym (next-told spoke) ∙ other .if2 .left))
+    c .same-bytes .ensures ∙ rw own (else-same _ _ _ _ (size .if1 .left) (list .0) (sym (next-told spoke) ∙ other .if2 .left))
 
 pub follows-spec : {M : Type 1} → statement M
 follows-spec =

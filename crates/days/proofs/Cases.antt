@@ -16,7 +16,7 @@ use Rattle.job.specs.Table.{windowOf}
 use Rattle.job.specs.Admission.{admissionOf}
 use Rattle.job.specs.declared.Admission.the-variants.{Admitted, TurnedAway}
 use Rattle.job.proofs.Admits.{admitted-good}
-use Rattle.days.specs.Days.{dayOf, daysBetween, daysOf}
+use Rattle.days.specs.Days.{dayOf, daysBetween, daysOf, mostDays}
 use Rattle.days.specs.Summary.{summaryOf}
 use Rattle.days.specs.Given.{spanAt, spansOf, badSpan, badSpans, badList, same, badAppend}
 use Rattle.days.specs.Totals.{shortRoom, totalsBy, leftBy}
@@ -31,9 +31,9 @@ use Rattle.days.proofs.Longer.{longer-is}
 use Rattle.days.proofs.Records.{length-summary}
 use Rattle.days.proofs.Working.{summary-set}
 
--- ---- at most 32 days
+-- ---- room for any summary
 
-pub days-most : (w : Window) → Good w → daysOf w ≤ 32
+pub days-most : (w : Window) → Good w → daysOf w ≤ mostDays
 unfolding daysBetween dayOf
 days-most w good = omega (arith, good .end)
 
@@ -99,7 +99,12 @@ module _ (w : Window) (list piece summary : List ℕ) where
       by true e = rw (longer-is w list piece (eqb-true (length piece) 24 e), h) refl
       by false e = refl
 
--- the intervals of a good list are not bad
+-- a good list
+pub whole-ordered : (w : Window) (list : List ℕ) → length list % 24 ≡ 0 → badSpans (w .t0) (w .t1) (spansOf list) ≡ false → badList w list ≡ false
+unfolding badList
+whole-ordered w list whole order = rw (eq-eqb (length list % 24) 0 whole, order) refl
+
+-- has intervals that are not bad
 pub list-order : (w : Window) (list : List ℕ) → badList w list ≡ false → badSpans (w .t0) (w .t1) (spansOf list) ≡ false
 unfolding badList
 list-order w list h = neither {a = not (eqb (length list % 24) 0)} h .1

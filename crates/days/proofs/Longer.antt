@@ -49,6 +49,11 @@ module _ (a b : List ℕ) where
 
 -- ---- the longer list
 
+-- a good list is whole records
+pub list-whole : (w : Window) (list : List ℕ) → badList w list ≡ false → length list % 24 ≡ 0
+unfolding badList
+list-whole w list h = eqb-true (length list % 24) 0 (not-false (eqb (length list % 24) 0) (neither {b = badSpans (w .t0) (w .t1) (spansOf list)} h .0))
+
 -- is bad exactly if the list is, or the piece as an interval behind it
 module _ (w : Window) (list piece : List ℕ) (one : length piece ≡ 24) where
   pub longer-is : badList w (list ++ piece) ≡ (badList w list || badSpan (nextFrom (w .t0) (spansOf list)) (w .t1) (spanAt piece 0))
@@ -64,8 +69,7 @@ module _ (w : Window) (list piece : List ℕ) (one : length piece ≡ 24) where
 
   -- and its summary is what the update of the list's leaves
   pub longer-summary : (lent : List ℕ) → badList w list ≡ false → Awaits w (spansOf list) (spanAt piece 0) lent → updated w (spansOf list) (spanAt piece 0) lent ≡ sets lent 0 (summaryOf w (spansOf (list ++ piece)))
-  unfolding badList
   longer-summary lent good a =
-      let whole = eqb-true (length list % 24) 0 (not-false (eqb (length list % 24) 0) (neither {b = badSpans (w .t0) (w .t1) (spansOf list)} good .0)) in
+      let whole = list-whole w list good in
       let room = stands-room w (spansOf list) lent (a .stands) in
       afresh w (spansOf list) (spanAt piece 0) lent a ∙ rw (spans-both list piece whole one) (sym (summary-set w (spansOf list ++ spanAt piece 0 ∷ []) lent room))

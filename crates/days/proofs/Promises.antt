@@ -5,7 +5,7 @@
 --   spansOf, spanAt, badList, badAppend       days/specs/Given.antt       dayOf, daysOf                                        days/specs/Days.antt
 --   admissionOf                               job/specs/Admission.antt    windowOf, roomForAny                                 job/specs, finder/specs
 --   outcomeOf, listAfter, answersIn           job/specs/Outcome.antt      listOf                                               finder/specs/Spans.antt
-use Prim.Native.Nat.{ℕ, _+_, _*_, _≤_, _<_}
+use Prim.Native.Nat.{ℕ, _+_, _*_, _≤_, _<_, _%_}
 use mathlib.Core.Path.{_≡_, refl, sym, ap, _∙_}
 use mathlib.Core.Logic.{_↔_}
 use mathlib.Core.Bool.{true, false}
@@ -15,10 +15,14 @@ use denote.Ref.{now}
 use denote.Triple.Clauses.{AtExit}
 use borrow.Fn.Kinds.{Dens, endedOf, resT}
 use lib.ListN.{length, take, drop}
+use lib.Seq.{take-at}
+use native.Mathlib.Omega.{arith}
+use Rattle.words.specs.Little.{readOf}
 use Rattle.refusal.specs.declared.Refusal.{Refusal}
 use Rattle.finder.specs.declared.Window.{Window}
 use Rattle.finder.specs.Samples.{lastEnd}
 use Rattle.finder.specs.Spans.{Span, listOf}
+use Rattle.finder.specs.Fits.{InOrder}
 use Rattle.finder.specs.Records.{roomForAny}
 use Rattle.job.specs.Table.{windowOf}
 use Rattle.job.specs.Outcome.{answersIn, outcomeOf, listAfter}
@@ -26,23 +30,24 @@ use Rattle.job.specs.Admission.{admissionOf}
 use Rattle.job.specs.declared.Admission.the-variants.{Admitted}
 use Rattle.job.specs.declared.Outcome.the-variants.{Listed, Refused}
 use Rattle.job.proofs.Admits.{admitted-good, away-exactly}
-use Rattle.days.specs.Days.{dayOf, daysBetween, daysOf}
-use Rattle.days.specs.Counts.{touches, sumFrom, instantsListed}
+use Rattle.days.specs.Days.{dayOf, daysBetween, daysOf, mostDays}
+use Rattle.days.specs.Counts.{touches, touching, instantsIn, sumFrom, instantsListed}
 use Rattle.days.specs.Summary.{dayRecord, summaryOf}
 use Rattle.days.specs.Given.{spanAt, spansOf, badList, badAppend}
 use Rattle.days.specs.Totals.{numbersOf, totalsOf, appendOf, leftBy, summaryAfter, appendAfter}
 use Rattle.days.specs.declared.Totals.{Totals}
 use Rattle.days.specs.declared.Totals.the-variants.{Written, Job, SummaryRoom, BadList}
 use Rattle.days.proofs.Answered as answered
-use Rattle.days.proofs.Orderly.{good-in-order}
+use Rattle.days.proofs.Orderly.{in-order-good, good-in-order}
 use Rattle.days.proofs.Touched.{touch-yes, touched}
 use Rattle.days.proofs.Working.{summary-set, summary-day}
-use Rattle.days.proofs.Records.{day-stays}
+use Rattle.days.proofs.Records.{length-summary, day-stays}
 use Rattle.days.proofs.Updates as updates
-use Rattle.days.proofs.Cases.{list-order, Follows, good-append}
+use Rattle.days.proofs.Updates.{read-numbers}
+use Rattle.days.proofs.Cases.{days-most, whole-ordered, list-order, Follows, good-append}
 use Rattle.days.proofs.Sums.{sum-all}
 use Rattle.days.proofs.Ours as ours
-use Rattle.days.proofs.Longer.{longer-summary}
+use Rattle.days.proofs.Longer.{list-whole, longer-summary}
 use Rattle.days.proofs.summary.Kinds as summary
 use Rattle.days.proofs.summary.Reads as summary-reads
 use Rattle.days.proofs.append.Kinds as append
@@ -116,6 +121,19 @@ module _ (s list old : List ℕ) (t : Totals) (new : List ℕ) (call : Summary s
   unfolding totalsOf
   written-exactly n = rw (call .answer) (answered.written-exactly s (length old) (λ v. badList v list) n)
 
+  -- 11 never where 512 bytes are lent: a window touches at most 32 days
+  pub room-enough : 16 * mostDays ≤ length old → t ≡ SummaryRoom → ⊥
+  room-enough enough h =
+      let short = room-exactly .0 h in
+      absurd (omega (arith, short .1, days-most w (admitted-good s (short .0) .1)))
+
+  -- both return field 0, number 0.0, whose bits are 0, and 0 days
+  pub room-returns : t ≡ SummaryRoom → numbersOf t ≡ record { refusal = 11; field = 0; bits = 0; days = 0 }
+  room-returns h = ap numbersOf h
+
+  pub list-returns : t ≡ BadList → numbersOf t ≡ record { refusal = 12; field = 0; bits = 0; days = 0 }
+  list-returns h = ap numbersOf h
+
   -- and the lent bytes stay
   pub summary-keeps : (numbersOf t .refusal ≡ 0 → ⊥) → new ≡ old
   unfolding summaryAfter
@@ -139,15 +157,19 @@ module _ (s list old : List ℕ) (t : Totals) (new : List ℕ) (call : Summary s
     pub day-by-day : (i : ℕ) → i < n → take 16 (drop (16 * i) new) ≡ dayRecord l (dayOf (w .t0) + i)
     day-by-day i below = ap (λ (x : List ℕ). take 16 (drop (16 * i) x)) summary-then-rest ∙ summary-day w l i (drop (16 * n) old) (rw (found .3) at below)
 
+    -- and these are the numbers that are read there: none is cut off
+    pub day-numbers : (i : ℕ) → i < n
+        → (readOf 4 new (16 * i) ≡ dayOf (w .t0) + i) × (readOf 4 new (16 * i + 4) ≡ touching l (dayOf (w .t0) + i)) × (readOf 8 new (16 * i + 8) ≡ instantsIn l (dayOf (w .t0) + i))
+    day-numbers i below =
+        let good = admitted-good s (found .0) .1 in
+        let stands : take (16 * daysOf w) new ≡ summaryOf w l = ap (take (16 * daysOf w)) summary-then-rest ∙ take-at (summaryOf w l) (drop (16 * n) old) (16 * daysOf w) (length-summary w l) in
+        read-numbers w l new good (list-order w list (found .2)) stands i (rw (found .3) at below)
+
     -- the sum of all days' instants is the instants of the list
     pub sum-of-days : sumFrom l (dayOf (w .t0)) n ≡ instantsListed l
     sum-of-days =
         let good = admitted-good s (found .0) .1 in
         rw (found .3) (sum-all w l good (good-in-order (w .t0) (w .t1) l (list-order w list (found .2))))
-
--- 11 and 12 return field 0, number 0.0, whose bits are 0, and 0 days
-pub returned : (numbersOf SummaryRoom ≡ record { refusal = 11; field = 0; bits = 0; days = 0 }) × (numbersOf BadList ≡ record { refusal = 12; field = 0; bits = 0; days = 0 })
-returned = (refl, refl)
 
 -- an interval touches the days from that of its first to that of its last, and no other
 pub touches-exactly : (x : Span) → x .first ≤ x .last → (d : ℕ) → (touches x d ≡ true) ↔ ((dayOf (x .first) ≤ d) × (d ≤ dayOf (x .last)))
@@ -157,6 +179,10 @@ touches-exactly x forward d = (touched x forward d, λ p. touch-yes x forward d 
 pub last-day : (w : Window) → w .t0 ≡ 0 → w .t1 ≡ lastEnd → daysOf w ≡ 32
 unfolding daysBetween dayOf
 last-day w from to = rw (from, to) refl
+
+-- what 12 is for: a list is good exactly if it is whole records and its intervals are in order in the window, with an instant between neighbours
+pub good-exactly : (w : Window) (list : List ℕ) → (badList w list ≡ false) ↔ ((length list % 24 ≡ 0) × InOrder (w .t0) (spansOf list) (w .t1))
+good-exactly w list = (λ h. (list-whole w list h, good-in-order (w .t0) (w .t1) (spansOf list) (list-order w list h)), λ p. whole-ordered w list (p .0) (in-order-good (w .t0) (w .t1) (spansOf list) (p .1)))
 
 -- ---- 3. A list of ours is accepted, and its summary is that of the list
 
@@ -196,10 +222,13 @@ module _ (s list piece old : List ℕ) (t : Totals) (new : List ℕ) (call : App
   unfolding appendOf
   append-list-exactly = rw (call .answer) (answered.list-exactly s (length old) (λ v. badAppend v list piece (take (16 * daysOf v) old)))
 
+  pub append-written-exactly : (n : ℕ) → (t ≡ Written n) ↔ ((admissionOf s ≡ Admitted (windowOf s)) × (16 * daysOf (windowOf s) ≤ length old) × (badAppend (windowOf s) list piece (take (16 * daysOf (windowOf s)) old) ≡ false) × (n ≡ daysOf (windowOf s)))
+  unfolding appendOf
+  append-written-exactly n = rw (call .answer) (answered.written-exactly s (length old) (λ v. badAppend v list piece (take (16 * daysOf v) old)) n)
+
   module _ {n : ℕ} (h : t ≡ Written n) where
     taken : (admissionOf s ≡ Admitted (windowOf s)) × (16 * daysOf (windowOf s) ≤ length old) × (badAppend (windowOf s) list piece (take (16 * daysOf (windowOf s)) old) ≡ false) × (n ≡ daysOf (windowOf s))
-    unfolding appendOf
-    taken = answered.written-exactly s (length old) (λ v. badAppend v list piece (take (16 * daysOf v) old)) n .0 (sym (call .answer) ∙ h)
+    taken = append-written-exactly n .0 h
 
     -- so the piece is one interval that awaits behind a good list
     follows : Follows (windowOf s) list piece old
@@ -212,16 +241,19 @@ module _ (s list piece old : List ℕ) (t : Totals) (new : List ℕ) (call : App
         let longer = answered.written-exactly s (length old) (λ v. badList v (list ++ piece)) n .1 (taken .0, taken .1, follows .longer-good, taken .3) in
         (h ∙ sym longer, call .bytes ∙ rw (sym (call .answer) ∙ h, longer) (longer-summary (windowOf s) list piece (follows .one) old (follows .list-good) (follows .awaits)))
 
+    -- the longer list's summary stands from byte 0 on, and every byte behind it is as it was
+    pub append-then-rest : new ≡ summaryOf (windowOf s) (spansOf list ++ spanAt piece 0 ∷ []) ++ drop (16 * n) old
+    unfolding appendAfter
+    append-then-rest = call .bytes ∙ rw (sym (call .answer) ∙ h, taken .3) (updates.afresh (windowOf s) (spansOf list) (spanAt piece 0) old (follows .awaits))
+
     -- the record of a day that the interval does not touch is as it was
     pub untouched : (i : ℕ) → i < n → touches (spanAt piece 0) (dayOf (windowOf s .t0) + i) ≡ false → take 16 (drop (16 * i) new) ≡ take 16 (drop (16 * i) old)
-    unfolding appendAfter
     untouched i below none =
         let w = windowOf s in
         let a = follows .awaits in
         let inside : i < daysOf w = rw (taken .3) at below in
-        let wrote : new ≡ summaryOf w (spansOf list ++ spanAt piece 0 ∷ []) ++ drop (16 * daysOf w) old = call .bytes ∙ rw (sym (call .answer) ∙ h) (updates.afresh w (spansOf list) (spanAt piece 0) old a) in
-        ap (λ (x : List ℕ). take 16 (drop (16 * i) x)) wrote
-        ∙ summary-day w (spansOf list ++ spanAt piece 0 ∷ []) i (drop (16 * daysOf w) old) inside
+        ap (λ (x : List ℕ). take 16 (drop (16 * i) x)) append-then-rest
+        ∙ summary-day w (spansOf list ++ spanAt piece 0 ∷ []) i (drop (16 * n) old) inside
         ∙ day-stays (w .t0) (w .t1) (spansOf list) (spanAt piece 0) (a .before) (a .next) (dayOf (w .t0) + i) none
         ∙ sym (summary-day w (spansOf list) i (drop (16 * daysOf w) old) inside)
         ∙ ap (λ (x : List ℕ). take 16 (drop (16 * i) x)) (sym (updates.stands-first w (spansOf list) old (a .stands)))

@@ -1,7 +1,7 @@
--- The summary that stands in lent bytes, read day by day, and its update: the days that the interval touches are stored, and the bytes are then those
--- of the longer list's summary worked out afresh.
+-- A summary that stands in lent bytes, read day by day; and its update, after which the bytes are those of the longer list's, worked out afresh.
 use Prim.Native.Nat.{ℕ, suc, _+_, _-_, _*_, _^_, _≤_, _<_}
 use mathlib.Core.Path.{_≡_, refl, sym, ap, _∙_}
+use mathlib.Core.Bool.{false}
 use mathlib.Core.List.{List, [], _∷_, _++_, append-assoc}
 use native.Mathlib.Omega.{arith}
 use lib.ListN.{length, take, drop, length-append, length-take, take-append-drop}
@@ -10,10 +10,12 @@ use Rattle.words.specs.Little.{bytesOf, readOf}
 use Rattle.words.proofs.Laws.{length-bytes, read-among}
 use Rattle.words.proofs.Stores.{sets-append}
 use Rattle.finder.specs.declared.Window.{Window}
+use Rattle.finder.specs.Samples.{Good}
 use Rattle.finder.specs.Spans.{Span}
 use Rattle.days.specs.Days.{dayOf, daysBetween, daysOf}
 use Rattle.days.specs.Counts.{instantsIn, instantsUnder, touches, touching}
 use Rattle.days.specs.Summary.{dayBytes, dayRecord, recordsFrom, summaryOf, updated}
+use Rattle.days.specs.Given.{badSpans}
 use Rattle.days.specs.State.{nextFrom, Awaits}
 use Rattle.days.proofs.Orderly.{good-span, next-far}
 use Rattle.days.proofs.Touched.{touch-yes, none-before, none-after, touching-more, instants-more, stay, touching-most, instants-most}
@@ -82,6 +84,12 @@ module _ (w : Window) (l : List Span) (lent : List ℕ) (stands : take (16 * day
         ∙ append-assoc earlier (dayRecord l d ++ later) (drop (16 * daysOf w) lent)
         ∙ ap (λ (x : List ℕ). earlier ++ x) (append-assoc (dayRecord l d) later (drop (16 * daysOf w) lent))
 
+    pub read-day : d < 256 ^ 4 → readOf 4 lent (16 * ahead) ≡ d
+    unfolding dayRecord dayBytes
+    read-day small =
+        let q = bytesOf 4 (touching l d) ++ (bytesOf 8 (instantsIn l d) ++ (later ++ drop (16 * daysOf w) lent)) in
+        read-among 4 d lent earlier q (16 * ahead) small length-earlier (day-stands ∙ simp append-assoc)
+
     pub read-intervals : touching l d < 256 ^ 4 → readOf 4 lent (16 * ahead + 4) ≡ touching l d
     unfolding dayRecord dayBytes
     read-intervals small =
@@ -95,6 +103,26 @@ module _ (w : Window) (l : List Span) (lent : List ℕ) (stands : take (16 * day
         let p = earlier ++ (bytesOf 4 d ++ bytesOf 4 (touching l d)) in
         let long : length p ≡ 16 * ahead + 8 = simp (length-append, length-bytes) (omega (arith, length-earlier)) in
         read-among 8 (instantsIn l d) lent p q (16 * ahead + 8) small long (day-stands ∙ simp append-assoc)
+
+-- the intervals of a window are fewer than 2^32
+pub few-listed : (w : Window) (l : List Span) → Good w → badSpans (w .t0) (w .t1) l ≡ false → (d : ℕ) → touching l d < 256 ^ 4
+few-listed w l good order d =
+    let far = next-far (w .t1) (w .t0) l order in
+    omega (arith, touching-most l d, far .0, far .1, good .window, good .end)
+
+-- so the three numbers of the i-th day are read there
+pub read-numbers : (w : Window) (l : List Span) (lent : List ℕ) → Good w → badSpans (w .t0) (w .t1) l ≡ false → take (16 * daysOf w) lent ≡ summaryOf w l → (i : ℕ) → i < daysOf w
+    → let d = dayOf (w .t0) + i in (readOf 4 lent (16 * i) ≡ d) × (readOf 4 lent (16 * i + 4) ≡ touching l d) × (readOf 8 lent (16 * i + 8) ≡ instantsIn l d)
+unfolding daysBetween dayOf
+read-numbers w l lent good order stands i below =
+    let d = dayOf (w .t0) + i in
+    let from : dayOf (w .t0) ≤ d = omega arith in
+    let to : d ≤ dayOf (w .t1) = omega (arith, good .window) in
+    let at : d - dayOf (w .t0) ≡ i = omega arith in (
+      ap (λ (k : ℕ). readOf 4 lent (16 * k)) (sym at) ∙ read-day w l lent stands d from to (omega (arith, good .end)),
+      ap (λ (k : ℕ). readOf 4 lent (16 * k + 4)) (sym at) ∙ read-intervals w l lent stands d from to (few-listed w l good order d),
+      ap (λ (k : ℕ). readOf 8 lent (16 * k + 8)) (sym at) ∙ read-instants w l lent stands d from to (omega (arith, instants-most l d)),
+    )
 
 -- ---- an interval that awaits
 

@@ -23,7 +23,7 @@ good-span low high s h =
     let b = neither (a .0) in
     (ltb-false (s .last) (s .first) (b .0), ltb-false (s .first) low (b .1), ltb-false high (s .last) (a .1))
 
-pub span-good : (low high : ℕ) (s : Span) → s .first ≤ s .last → low ≤ s .first → s .last ≤ high → badSpan low high s ≡ false
+span-good : (low high : ℕ) (s : Span) → s .first ≤ s .last → low ≤ s .first → s .last ≤ high → badSpan low high s ≡ false
 unfolding badSpan
 span-good low high s a b c = rw (le-ltb (s .last) (s .first) a, le-ltb (s .first) low b, le-ltb high (s .last) c) refl
 
@@ -57,7 +57,7 @@ module _ (high : ℕ) where
       (omega (arith, g .0, g .1, r .0), omega (arith, g .2, r .1))
 
   -- an instant of theirs lies before that
-  pub listed-before : (low : ℕ) (l : List Span) (t : ℕ) → badSpans low high l ≡ false → listed l t ≡ true → t + 2 ≤ nextFrom low l
+  listed-before : (low : ℕ) (l : List Span) (t : ℕ) → badSpans low high l ≡ false → listed l t ≡ true → t + 2 ≤ nextFrom low l
   unfolding badSpans nextFrom listed
   listed-before low [] t h on = absurd (true≢false (sym on))
   listed-before low (s ∷ l) t h on =

@@ -56,7 +56,7 @@ module _ (g : ℕ → Sight) (w : Window) (high : ℕ) (fits : high < 256 ^ 8) w
       rw (span-read p (recordsOf g w l) k (intervalOf g w s) long (omega (arith, o .1, o .2)) (omega (arith, o .2)))
       (ap (λ (m : List Span). s ∷ m) (ap (λ (x : List ℕ). spansFrom x (suc k) (length l)) (sym (append-assoc p r (recordsOf g w l))) ∙ spans-read (s .last + 2) (suc k) (p ++ r) l further (o .3)))
 
-  pub spans-back : (low : ℕ) (l : List Span) → InOrder low l high → spansOf (recordsOf g w l) ≡ l
+  spans-back : (low : ℕ) (l : List Span) → InOrder low l high → spansOf (recordsOf g w l) ≡ l
   unfolding spansOf
   spans-back low l o =
       let n : length (recordsOf g w l) / 24 ≡ length l = omega (arith, length-records g w l) in

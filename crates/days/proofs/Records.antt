@@ -72,7 +72,7 @@ day-stays low high l s before next d none =
 -- ---- no interval
 
 -- nothing is counted
-pub none-counted : (d : ℕ) → (touching [] d ≡ 0) × (instantsIn [] d ≡ 0)
+none-counted : (d : ℕ) → (touching [] d ≡ 0) × (instantsIn [] d ≡ 0)
 unfolding touching instantsIn listed
 none-counted d = (refl, count-none (listed []) (startOf d) dayLength (λ t. refl))
 

@@ -4,7 +4,7 @@ use mathlib.Core.Path.{_≡_, refl, sym, ap}
 use mathlib.Core.Bool.{Bool, true, false, _&&_, true≢false}
 use mathlib.Core.List.{List, [], _∷_}
 use native.Mathlib.Numerals.{add-one}
-use borrow.Author.Tests.{eqb-true, eq-eqb}
+use borrow.Author.Tests.{eqb-true}
 use lib.Dec.{eqb}
 use lib.ListN.{length, getD, drop}
 use lib.Seq.{drop-cons, drop-length}
@@ -20,11 +20,6 @@ same-is (x ∷ a) [] h = absurd (true≢false (sym h))
 same-is (x ∷ a) (y ∷ b) h =
     let p = both (eqb x y) (same a b) h in
     rw (eqb-true x y (p .0), same-is a b (p .1)) refl
-
-pub same-self : (a : List ℕ) → same a a ≡ true
-unfolding same
-same-self [] = refl
-same-self (x ∷ a) = rw (eq-eqb x x refl, same-self a) refl
 
 -- of two lengths they are not
 pub same-long : (a b : List ℕ) → (length a ≡ length b → ⊥) → false ≡ same a b

@@ -37,7 +37,7 @@ drop-behind xs l i at fits behind =
     ∙ ap (λ (k : ℕ). drop k l) there
 
 -- so it reads as it did
-pub read-behind : (n : ℕ) (xs l : List ℕ) (i at : ℕ) → i + length xs ≤ length l → i + length xs ≤ at → readOf n (sets l i xs) at ≡ readOf n l at
+read-behind : (n : ℕ) (xs l : List ℕ) (i at : ℕ) → i + length xs ≤ length l → i + length xs ≤ at → readOf n (sets l i xs) at ≡ readOf n l at
 unfolding readOf
 read-behind n xs l i at fits behind = rw (drop-behind xs l i at fits behind) refl
 
@@ -84,19 +84,19 @@ module _ (w : Window) (l : List Span) (lent : List ℕ) (stands : take (16 * day
         ∙ append-assoc earlier (dayRecord l d ++ later) (drop (16 * daysOf w) lent)
         ∙ ap (λ (x : List ℕ). earlier ++ x) (append-assoc (dayRecord l d) later (drop (16 * daysOf w) lent))
 
-    pub read-day : d < 256 ^ 4 → readOf 4 lent (16 * ahead) ≡ d
+    read-day : d < 256 ^ 4 → readOf 4 lent (16 * ahead) ≡ d
     unfolding dayRecord dayBytes
     read-day small =
         let q = bytesOf 4 (touching l d) ++ (bytesOf 8 (instantsIn l d) ++ (later ++ drop (16 * daysOf w) lent)) in
         read-among 4 d lent earlier q (16 * ahead) small length-earlier (day-stands ∙ simp append-assoc)
 
-    pub read-intervals : touching l d < 256 ^ 4 → readOf 4 lent (16 * ahead + 4) ≡ touching l d
+    read-intervals : touching l d < 256 ^ 4 → readOf 4 lent (16 * ahead + 4) ≡ touching l d
     unfolding dayRecord dayBytes
     read-intervals small =
         let q = bytesOf 8 (instantsIn l d) ++ (later ++ drop (16 * daysOf w) lent) in
         read-among 4 (touching l d) lent (earlier ++ bytesOf 4 d) q (16 * ahead + 4) small (length-append earlier (bytesOf 4 d) ∙ omega (arith, length-earlier, length-bytes 4 d)) (day-stands ∙ simp append-assoc)
 
-    pub read-instants : instantsIn l d < 256 ^ 8 → readOf 8 lent (16 * ahead + 8) ≡ instantsIn l d
+    read-instants : instantsIn l d < 256 ^ 8 → readOf 8 lent (16 * ahead + 8) ≡ instantsIn l d
     unfolding dayRecord dayBytes
     read-instants small =
         let q = later ++ drop (16 * daysOf w) lent in
@@ -105,7 +105,7 @@ module _ (w : Window) (l : List Span) (lent : List ℕ) (stands : take (16 * day
         read-among 8 (instantsIn l d) lent p q (16 * ahead + 8) small long (day-stands ∙ simp append-assoc)
 
 -- the intervals of a window are fewer than 2^32
-pub few-listed : (w : Window) (l : List Span) → Good w → badSpans (w .t0) (w .t1) l ≡ false → (d : ℕ) → touching l d < 256 ^ 4
+few-listed : (w : Window) (l : List Span) → Good w → badSpans (w .t0) (w .t1) l ≡ false → (d : ℕ) → touching l d < 256 ^ 4
 few-listed w l good order d =
     let far = next-far (w .t1) (w .t0) l order in
     omega (arith, touching-most l d, far .0, far .1, good .window, good .end)

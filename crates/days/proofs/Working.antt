@@ -24,7 +24,7 @@ use Rattle.days.proofs.Updates.{afresh}
 
 -- ---- intervals of a list's bytes
 
-pub spans-add : (list : List ℕ) (k m n : ℕ) → spansFrom list k (m + n) ≡ spansFrom list k m ++ spansFrom list (k + m) n
+spans-add : (list : List ℕ) (k m n : ℕ) → spansFrom list k (m + n) ≡ spansFrom list k m ++ spansFrom list (k + m) n
 unfolding spansFrom
 spans-add list k zero n = let e : k + 0 ≡ k = omega arith in let z : 0 + n ≡ n = omega arith in rw (e, z) refl
 spans-add list k (suc m) n =
@@ -121,7 +121,7 @@ unfolding badList
 work-halves w list other = rw (ne-eqb (length list % 24) 0 other) refl
 
 module _ {w : Window} {list own₀ own : List ℕ} {next k : ℕ} (g : Working w list own₀ own next k) (whole : length list % 24 ≡ 0) (all : k ≡ length list / 24) where
-  pub work-good : badList w list ≡ false
+  work-good : badList w list ≡ false
   unfolding badList spansOf
   work-good = rw (eq-eqb (length list % 24) 0 whole, ← all, g .before) refl
 

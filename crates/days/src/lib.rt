@@ -35,7 +35,7 @@ pub struct Numbers {
     pub days: usize,
 }
 
-// Where an interval behind a good list may begin.
+// Where an interval behind a good list may begin, or that the list is bad.
 enum Worked {
     Ordered { next: u64 },
     Bad,
@@ -48,7 +48,10 @@ const DAY: u64 = 86_400_000;
 const INTERVAL: usize = 24;
 
 // Bytes of a day's record.
-const RECORD: usize = 16;
+const DAY_RECORD: usize = 16;
+
+// Room for any summary: a window touches at most 32 days.
+const ANY_SUMMARY: usize = 512;
 
 // An answer in numbers.
 pub fn told(t: Totals) -> Numbers
@@ -134,7 +137,7 @@ fn blank(w: Window, out: &mut [u8])
     let n = days(w);
     let mut i = 0;
     while i < n {
-        put_day(out, RECORD * i, (start + (i as u64)) as u32, 0, 0);
+        put_day(out, DAY_RECORD * i, (start + (i as u64)) as u32, 0, 0);
         i += 1;
     }
 }
@@ -148,7 +151,7 @@ fn add(w: Window, out: &mut [u8], first: u64, last: u64)
     let end = last / DAY;
     let mut d = first / DAY;
     while d <= end {
-        let at = RECORD * ((d - start) as usize);
+        let at = DAY_RECORD * ((d - start) as usize);
         let intervals = words::read4(out, at + 4) + 1;
         let instants = words::read8(out, at + 8) + inside(first, last, d);
         put_day(out, at, d as u32, intervals, instants);
@@ -216,8 +219,8 @@ fn follows(w: Window, list: &[u8], piece: &[u8], summary: &[u8]) -> bool
     requires { ⌜ Good w ⌝ }
     ensures { λ r. ⌜ r ≡ not (badAppend w (now (list .entry)) (now (piece .entry)) (now (summary .entry))) ⌝ }
 {
-    let used = RECORD * days(w);
-    let mut own = [0u8; 512];
+    let used = DAY_RECORD * days(w);
+    let mut own = [0u8; ANY_SUMMARY];
     match work_out(w, list, &mut own) {
         Worked::Bad => false,
         Worked::Ordered { next } => {
@@ -241,11 +244,11 @@ fn summary_in(w: Window, list: &[u8], out: &mut [u8]) -> Totals
     ensures { λ r. ⌜ now (out .exit) ≡ leftBy r (sets (now (out .entry)) 0 (summaryOf w (spansOf (now (list .entry))))) (now (out .entry)) ⌝ }
 {
     let n = days(w);
-    let used = RECORD * n;
+    let used = DAY_RECORD * n;
     if out.len() < used {
         return Totals::SummaryRoom;
     }
-    let mut own = [0u8; 512];
+    let mut own = [0u8; ANY_SUMMARY];
     match work_out(w, list, &mut own) {
         Worked::Bad => Totals::BadList,
         Worked::Ordered { next: _ } => {
@@ -273,7 +276,7 @@ fn append_in(w: Window, list: &[u8], piece: &[u8], out: &mut [u8]) -> Totals
     ensures { λ r. ⌜ now (out .exit) ≡ leftBy r (updated w (spansOf (now (list .entry))) (spanAt (now (piece .entry)) 0) (now (out .entry))) (now (out .entry)) ⌝ }
 {
     let n = days(w);
-    let used = RECORD * n;
+    let used = DAY_RECORD * n;
     if out.len() < used {
         return Totals::SummaryRoom;
     }

@@ -22,7 +22,7 @@ use Rattle.job.specs.Reply.{jobOf, closingOf}
 use Rattle.job.specs.declared.Outcome.the-variants.{Listed, Refused}
 use Rattle.job.proofs.Exactly.{listed-good, listed-intervals}
 use Rattle.job.proofs.Written.{records-then-rest}
-use Rattle.days.specs.Days.{daysOf}
+use Rattle.days.specs.Days.{daysOf, mostDays}
 use Rattle.days.specs.Summary.{summaryOf}
 use Rattle.days.specs.Given.{spansOf}
 use Rattle.days.specs.Totals.{numbersOf, totalsOf, summaryAfter}
@@ -31,7 +31,7 @@ use Rattle.days.specs.declared.Totals.the-variants.{Written}
 use Rattle.days.proofs.Records.{length-summary}
 use Rattle.days.proofs.Cases.{days-most}
 use Rattle.days.proofs.Ours.{ours-accepted, ours-spans}
-use Rattle.totals.specs.Reply.{replyBy, replyOf, HoldsAnyList, mostDays, HoldsAnyReply}
+use Rattle.totals.specs.Reply.{replyBy, replyOf, HoldsAnyList, HoldsAnyReply}
 
 -- what stands behind h, stored before h is, is stored behind it
 sets-before : (h xs l : List ℕ) (at : ℕ) → length h ≡ at → at + length xs ≤ length l → sets (sets l at xs) 0 h ≡ sets l 0 (h ++ xs)

@@ -3,6 +3,7 @@ use Prim.Native.Nat.{ℕ, _+_, _*_, _≤_, _<_}
 use mathlib.Core.Path.{_≡_}
 use mathlib.Core.List.{List, _++_}
 use lib.ListN.{length}
+use Rattle.interval.specs.declared.Interval.{Interval}
 use Rattle.interval.specs.Record.{recordBytes}
 use Rattle.finder.specs.Spans.{listOf}
 use Rattle.finder.specs.Records.{roomForAny}
@@ -11,15 +12,16 @@ use Rattle.job.specs.Outcome.{answersIn, outcomeOf}
 use Rattle.job.specs.Reply.{jobOf, closingOf}
 use Rattle.job.specs.declared.Outcome.{Outcome}
 use Rattle.job.specs.declared.Outcome.the-variants.{Listed, Refused}
-use Rattle.days.specs.Days.{daysOf}
+use Rattle.days.specs.Days.{daysOf, mostDays}
 use Rattle.days.specs.Summary.{summaryOf}
 
--- by the job's outcome: flags 512, first = number of days, last = instants asked, and then the summary of the job's list; a refused job has its closing
--- record alone
+-- the head: job, 512, number of days, instants asked
+abbrev pub headOf : List ℕ → ℕ → Interval
+headOf s asked = record { job = jobOf s; flags = 512; first = daysOf (windowOf s); last = asked }
+
+-- by the job's outcome: the head and then the summary of its list; a refused job has its closing record alone, as in `lists`
 unfoldable pub replyBy : List ℕ → Outcome → List ℕ
-replyBy s (Listed intervals asked) =
-    let w = windowOf s in
-    recordBytes (closingOf (jobOf s) (Listed (daysOf w) asked)) ++ summaryOf w (listOf (answersIn s) w)
+replyBy s (Listed intervals asked) = recordBytes (headOf s asked) ++ summaryOf (windowOf s) (listOf (answersIn s) (windowOf s))
 replyBy s (Refused r) = recordBytes (closingOf (jobOf s) (Refused r))
 
 -- with room for any list, so that no job is refused for want of it
@@ -31,10 +33,6 @@ replyOf s = replyBy s (outcomeOf s roomForAny)
 -- the lent list has room for any
 abbrev pub HoldsAnyList : List ℕ → Type 0
 HoldsAnyList list = length list ≡ roomForAny
-
--- a window touches at most so many days: those of 31 days, and one more where it ends at the very end of them
-abbrev pub mostDays : ℕ
-mostDays = 32
 
 -- room for any reply: the head's 24 bytes, and 16 for each day
 abbrev pub HoldsAnyReply : List ℕ → Type 0

@@ -19,7 +19,7 @@ const HEAD: usize = 24;
 const INTERVAL: usize = 24;
 
 // Bytes of a day's record.
-const DAY: usize = 16;
+const DAY_RECORD: usize = 16;
 
 // How many days were written.
 fn written(t: Totals) -> usize
@@ -50,7 +50,7 @@ fn reply(s: &[u8], list: &mut [u8], out: &mut [u8]) -> usize
                 asked,
             };
             interval::write(out, 0, job::closing(job, head));
-            HEAD + DAY * days
+            HEAD + DAY_RECORD * days
         }
     }
 }

@@ -56,7 +56,7 @@ extern "C" {
 /* Of a summary, behind the job's own, of which 9 does not come up there; 11 before 12. */
 #define QUECHOTZAL_REFUSED_SUMMARY_ROOM 11u /* the summary's buffer has less than 16 bytes for each day that the window touches */
 #define QUECHOTZAL_REFUSED_BAD_LIST 12u     /* the list is not whole records, or an interval has last before first, is not inside the window, or begins less than 2 after the
-                                               one before it ends; quechotzal_append has more of them */
+                                               one before it ends; quechotzal_append has further causes, below */
 
 /*
  * One job. Writes its intervals into `list` from byte 0, each 24 bytes, in order, and no other byte of `list`; a refused job writes none, and `list` keeps

@@ -106,8 +106,8 @@ impl Summed {
         place(interval.first)..=place(interval.last)
     }
 
-    /// To each day that a good interval touches, what it has of that day. At most one interval
-    /// goes over a midnight: a list's touch fewer days than there are intervals and days.
+    /// To each day that a good interval touches, what it has of that day. Over each midnight goes
+    /// at most one interval: a list's touch fewer days than there are intervals and days.
     fn add(&mut self, interval: &Interval) {
         let touched = self.touched(interval);
         for total in &mut self.totals[touched] {

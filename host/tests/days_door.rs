@@ -35,6 +35,25 @@ fn agrees(name: &str, family: fn(&mut Random) -> Pieces) {
     }
 }
 
+/// The job's own refusals in order, each with all that come after it, 11 and 12 among them.
+#[test]
+fn the_jobs_own_come_first() {
+    let bad = [1; INTERVAL + 1];
+    for (number, (record, expected)) in jobs::refused_jobs().iter().enumerate() {
+        for room in [0, 15, ROOM] {
+            let lent = unwritten(room);
+            let name = "the_jobs_own_come_first";
+            let calls = [
+                summing(record, &bad, &lent),
+                appending(record, &bad, &bad, &lent),
+            ];
+            for call in &calls {
+                assert_eq!(hold(name, number, call), *expected);
+            }
+        }
+    }
+}
+
 /// What is answered where a summary of the job is written.
 fn written(job: &Job) -> Answer {
     Answer {

@@ -1,4 +1,4 @@
--- What a call through the door returns and leaves behind. No rule of document 01: include/quechotzal.h says the same in words.
+-- What a call through the door returns and leaves behind. No rule of a document: include/quechotzal.h says the same in words.
 use Prim.Native.Nat.{ℕ}
 use mathlib.Core.Path.{_≡_}
 use mathlib.Core.Bool.{Bool, cond}

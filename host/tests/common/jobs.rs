@@ -2,8 +2,25 @@
 
 use super::random::Random;
 use host::record::{Interval, Job, INTERVAL};
-use host::{refusal, sight};
+use host::{refusal, sight, Answer};
 use std::f64::consts::TAU;
+
+/// Document 01, One job whole: job 7.
+pub fn job7() -> Job {
+    let mut fields = [0.0; 13];
+    fields[0] = 10000.0;
+    fields[5] = 7200.0;
+    fields[6] = 5000.0;
+    Job {
+        job: 7,
+        word: 0,
+        fields,
+        t0: 0,
+        t1: 7_200_000,
+        step: 600_000,
+        question: 1,
+    }
+}
 
 /// One unit of angle, in degrees.
 pub const UNIT: f64 = 360.0 / 4_294_967_296.0;
@@ -170,4 +187,42 @@ pub fn changing(question: u32, e: f64, half_turn: u64, half_turns: u64) -> Job {
 pub fn put_field(record: &mut [u8], k: usize, bits: u64) {
     let at = 8 * k;
     record[at..at + 8].copy_from_slice(&bits.to_le_bytes());
+}
+
+/// The job's own refusals in order, each with all that come after it: the record, and what is
+/// answered. 9 is not among them, and 10 is never seen.
+pub fn refused_jobs() -> Vec<(Vec<u8>, Answer)> {
+    let question = Job {
+        question: 0,
+        ..job7()
+    };
+    let step = Job {
+        step: 0,
+        ..question
+    };
+    let window = Job { t1: 0, ..step };
+    let mut distance = window;
+    distance.fields[6] = 20_000.0;
+    let mut range = distance;
+    range.fields[12] = 91.0;
+    let mut not_finite = range;
+    not_finite.fields[1] = f64::NAN;
+    let word = Job {
+        word: 1,
+        ..not_finite
+    };
+    let refused = |job: Job, refusal, field, number| {
+        let answer = Answer::refused(refusal, field, number);
+        (job.encode().to_vec(), answer)
+    };
+    vec![
+        (word.encode()[1..].to_vec(), Answer::refused(1, 0, 0)),
+        refused(word, 2, 0, 0),
+        refused(not_finite, 3, 2, f64::NAN.to_bits()),
+        refused(range, 4, 13, 91f64.to_bits()),
+        refused(distance, 5, 0, 10_000f64.to_bits()),
+        refused(window, 6, 0, 0),
+        refused(step, 7, 0, 0),
+        refused(question, 8, 0, 0),
+    ]
 }

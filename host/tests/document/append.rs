@@ -1,8 +1,9 @@
 //! Document 02, wish 3: an interval later than all others is appended to a summary.
 
+use crate::common::jobs::refused_jobs;
 use crate::common::lists::{self, FAULTS, SHORT_WINDOW};
 use crate::helpers::*;
-use crate::list_refusals::{refused_jobs, NOT_GOOD, ROOM_SHORT};
+use crate::list_refusals::{NOT_GOOD, ROOM_SHORT};
 use host::record::{Job, Total, INTERVAL, TOTAL};
 use host::{append, Answer};
 

@@ -1,25 +1,9 @@
 //! What the tests share: job 7, refusals, random numbers.
 
+pub use crate::common::jobs::job7;
 pub use crate::common::random::Random;
 use host::record::{Interval, Job, Total, INTERVAL, TOTAL};
 use host::{days, list, Answer};
-
-/// Document 01, One job whole: job 7.
-pub fn job7() -> Job {
-    let mut fields = [0.0; 13];
-    fields[0] = 10000.0;
-    fields[5] = 7200.0;
-    fields[6] = 5000.0;
-    Job {
-        job: 7,
-        word: 0,
-        fields,
-        t0: 0,
-        t1: 7_200_000,
-        step: 600_000,
-        question: 1,
-    }
-}
 
 /// Job 7 with another window.
 pub fn job7_in(t0: u64, t1: u64, step: u32) -> Job {

@@ -1,48 +1,11 @@
 //! Document 02, wish 3: refusals 11 and 12, after the job's own, for the summary of a list.
 //! What `summary_of` is lent keeps every byte with each of them.
 
+use crate::common::jobs::refused_jobs;
 use crate::common::lists::{self, FAULTS};
 use crate::helpers::*;
-use host::record::{Job, INTERVAL, TOTAL};
+use host::record::{INTERVAL, TOTAL};
 use host::Answer;
-
-/// The job's own refusals in order, each with all that come after it: the record, and what is
-/// answered. 9 is not among them, and 10 is never seen.
-pub fn refused_jobs() -> Vec<(Vec<u8>, Answer)> {
-    let question = Job {
-        question: 0,
-        ..job7()
-    };
-    let step = Job {
-        step: 0,
-        ..question
-    };
-    let window = Job { t1: 0, ..step };
-    let mut distance = window;
-    distance.fields[6] = 20_000.0;
-    let mut range = distance;
-    range.fields[12] = 91.0;
-    let mut not_finite = range;
-    not_finite.fields[1] = f64::NAN;
-    let word = Job {
-        word: 1,
-        ..not_finite
-    };
-    let refused = |job: Job, refusal, field, number| {
-        let answer = Answer::refused(refusal, field, number);
-        (job.encode().to_vec(), answer)
-    };
-    vec![
-        (word.encode()[1..].to_vec(), Answer::refused(1, 0, 0)),
-        refused(word, 2, 0, 0),
-        refused(not_finite, 3, 2, f64::NAN.to_bits()),
-        refused(range, 4, 13, 91f64.to_bits()),
-        refused(distance, 5, 0, 10_000f64.to_bits()),
-        refused(window, 6, 0, 0),
-        refused(step, 7, 0, 0),
-        refused(question, 8, 0, 0),
-    ]
-}
 
 pub const ROOM_SHORT: Answer = Answer {
     refusal: 11,

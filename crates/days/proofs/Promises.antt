@@ -1,10 +1,10 @@
 -- What is promised of the totals by day: each part a theorem about the contracts of `days::summary` and `days::append`, for every record's bytes,
 -- every list's bytes and every lent summary. docs/PROMISES.md leads here. The statements' words stand in
---   totalsOf, appendOf, summaryAfter, appendAfter, numbersOf                            days/specs/Totals.antt
---   summaryOf, dayRecord                      days/specs/Summary.antt     touches, touching, instantsIn, sumFrom, instantsListed   days/specs/Counts.antt
---   spansOf, spanAt, badList, badAppend       days/specs/Given.antt       dayOf, daysOf                                        days/specs/Days.antt
---   admissionOf                               job/specs/Admission.antt    windowOf, roomForAny                                 job/specs, finder/specs
---   outcomeOf, listAfter, answersIn           job/specs/Outcome.antt      listOf                                               finder/specs/Spans.antt
+--   totalsOf, appendOf, summaryAfter, appendAfter, numbersOf   days/specs/Totals.antt      spansOf, spanAt, badList, badAppend   days/specs/Given.antt
+--   touches, touching, instantsIn, sumFrom, instantsListed     days/specs/Counts.antt      summaryOf, dayRecord                  days/specs/Summary.antt
+--   outcomeOf, listAfter, answersIn                            job/specs/Outcome.antt      dayOf, daysOf, mostDays               days/specs/Days.antt
+--   admissionOf                                                job/specs/Admission.antt    windowOf                              job/specs/Table.antt
+--   InOrder, listOf, roomForAny                                finder/specs                readOf                                words/specs/Little.antt
 use Prim.Native.Nat.{ℕ, _+_, _*_, _≤_, _<_, _%_}
 use mathlib.Core.Path.{_≡_, refl, sym, ap, _∙_}
 use mathlib.Core.Logic.{_↔_}

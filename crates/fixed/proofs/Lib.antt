@@ -4,4 +4,5 @@ pub mod Mirrored
 pub mod Within
 pub mod Machine
 pub mod Roots
+pub mod Digits
 pub mod Only

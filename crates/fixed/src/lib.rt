@@ -69,19 +69,22 @@ pub fn dot(p: [i64; 3], e: [i64; 3]) -> i64
     scaled(p[0], e[0]) + scaled(p[1], e[1]) + scaled(p[2], e[2])
 }
 
-// The whole square root of any u64, by halving.
+// The whole square root of any u64, by binary digits, the highest first. `rest` is n less the square of the digits found. Where the next digit is 1, that square grows
+// by its own square, `bit`, and by twice its product with the digits found, which is held in `root`: at the end these digits alone.
 pub fn whole_root(n: u64) -> u64
     ensures { λ q. ⌜ q ≡ rootOf n ⌝ }
 {
-    let mut low: u64 = 0;
-    let mut high: u64 = 4_294_967_296;
-    while low + 1 < high {
-        let middle = (low + high) / 2;
-        if middle * middle <= n {
-            low = middle;
-        } else {
-            high = middle;
+    let mut rest = n;
+    let mut root: u64 = 0;
+    let mut bit: u64 = 4_611_686_018_427_387_904;
+    while bit > 0 {
+        let growth = root + bit;
+        if growth <= rest {
+            rest = rest - growth;
+            root = growth + bit;
         }
+        root = root >> 1;
+        bit = bit >> 2;
     }
-    low
+    root
 }

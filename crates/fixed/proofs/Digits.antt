@@ -6,7 +6,8 @@ use native.Mathlib.Omega.{arith}
 use lib.Pow.{pow-pos}
 use Rattle.fixed.specs.Root.{Root}
 
--- q is the root but for its digits below u: n lies from q² up to, not with, (q + u)². `root` and `bit` are what the next digit, u / 2, is tried by
+-- q is the root but for its digits below u, so n lies from q² up to, not with, (q + u)²; at u = 1 that is `Root`. The next digit is u / 2: `root` is twice its
+-- product with q, and `bit` its square
 pub record Digits (n rest root bit u q : ℕ) : Type 0 where
   pub left : q * q + rest ≡ n
   pub high : n < (q + u) * (q + u)
@@ -23,7 +24,7 @@ digit-zero d h = record { left = omega arith; high = omega arith; product = omeg
 all-digits : {n rest root bit q : ℕ} → Digits n rest root bit 1 q → Root n root
 all-digits d = rw (d .product, mul-one) (record { low = omega arith; high = d .high })
 
--- what a loop over the digits keeps: there are k of them to come
+-- what the loop keeps: k digits are to come
 abbrev pub Partway : ℕ → ℕ → ℕ → ℕ → Type 0
 Partway n rest root bit = (k : ℕ) × (q : ℕ) × Digits n rest root bit (2 ^ k) q
 

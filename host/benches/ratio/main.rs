@@ -11,10 +11,20 @@ mod cases;
 mod common;
 #[cfg(door)]
 mod measured;
+#[cfg(all(door, whole_root))]
+mod roots;
 
 #[cfg(door)]
 fn main() {
-    measured::print(&cases::all());
+    let cases = cases::all();
+    #[cfg(whole_root)]
+    let cases = cases
+        .into_iter()
+        .chain([roots::of_jobs()])
+        .collect::<Vec<_>>();
+    #[cfg(not(whole_root))]
+    println!("without the whole square root: `tools/whole_root` writes its archive, for x86-64");
+    measured::print(&cases);
 }
 
 #[cfg(not(door))]

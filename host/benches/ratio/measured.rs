@@ -8,11 +8,11 @@ use std::hint::black_box;
 use std::time::{Duration, Instant};
 
 /// One side: the answer's bytes for a record and a list, and what is written.
-type Side = fn(&[u8], &[u8], &mut [u8]) -> [u8; ANSWER];
+pub type Side = fn(&[u8], &[u8], &mut [u8]) -> [u8; ANSWER];
 
 pub struct Sides {
-    proved: Side,
-    independent: Side,
+    pub proved: Side,
+    pub independent: Side,
 }
 
 /// The record's list is written; the list that is given does not matter.
@@ -68,7 +68,7 @@ pub fn print(cases: &[Case]) {
         }
     }
     println!(
-        "ns an instant, or a record where none is asked; the best of {} runs of each side",
+        "ns an instant, or a record or a root where none is asked; the best of {} runs of each side",
         effort.runs
     );
     println!("worst ratio {:.2}: {}", worst.0, worst.1);

@@ -15,3 +15,5 @@ pub mod told;
 pub mod calls;
 #[cfg(door)]
 pub mod door;
+#[cfg(whole_root)]
+pub mod whole_root;

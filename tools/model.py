@@ -1,6 +1,6 @@
 """Document 01's rules in exact arithmetic: from an orbit record to what one instant answers, and from a program's input to its output.
 
-One function for each rule, in document 01's order and letters, with what document 02's wish 1 adds to the flags, the station's turn of its wish 2 and the totals of its wish 3.
+One function for each rule, in document 01's order and letters, with what document 02's wish 1 adds to the flags, the station's turn of its wish 2, the totals of its wish 3 and the finer table of its wish 5.
 It uses nothing of the crates, so that their numbers can be held against it; but it is no independent reading of document 01 (docs/DECISIONS.md,
 "The stored output"). Whole numbers and fractions only, but for the closest distance, which document 01 wants in floats. // is Python's floor, toward
 minus infinity.
@@ -72,20 +72,23 @@ def orbit(record):
 # ---- Sine
 
 PI = Fraction(314159265358979323846, 10**20)
+SEGMENTS = 4096
 
 
 @cache
-def entry(k):
-    """Entry k of the table of 1,025: 2^30 times the first twelve terms of the sine series at k·π/2048."""
-    x = k * PI / 2048
+def entry(k, segments):
+    """Entry k of the table with so many segments, and one entry more: 2^30 times the first twelve terms of the sine series at k·π/(2·segments)."""
+    x = k * PI / (2 * segments)
     return nearest(ONE * sum((-1) ** n * x ** (2 * n + 1) / factorial(2 * n + 1) for n in range(12)))
 
 
 def reading(g):
     if g == QUARTER:
-        return entry(1024)
-    k, r = divmod(g, 2**20)
-    return entry(k) + (entry(k + 1) - entry(k)) * r // 2**20
+        return entry(SEGMENTS, SEGMENTS)
+    segment = QUARTER // SEGMENTS  # 2^18 units
+    k, r = divmod(g, segment)
+    low, high = entry(k, SEGMENTS), entry(k + 1, SEGMENTS)
+    return low + (high - low) * r // segment
 
 
 def sin(θ):

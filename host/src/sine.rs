@@ -1,11 +1,15 @@
-//! Document 01, Sine: the table by its rule, and the reading between entries.
+//! Document 01, Sine: the table by its rule, and the reading between entries. The table's size is
+//! that of document 02, wish 5.
 
 use crate::big::Big;
 use crate::whole::QUARTER;
 use std::sync::OnceLock;
 
 /// The last entry's number; the table has one entry more.
-pub const LAST: usize = 1024;
+pub const LAST: usize = 4096;
+
+/// A segment, from one entry to the next, has 2^18 units.
+const SEGMENT_BITS: u32 = 18;
 
 /// π read as 3.14159265358979323846, times 10^20.
 const PI: u128 = 314_159_265_358_979_323_846;
@@ -15,14 +19,14 @@ const PI_SCALE: u128 = 100_000_000_000_000_000_000;
 pub struct Sine([i64; LAST + 1]);
 
 /// Document 01, Sine: entry k is the nearest whole number to 2^30 times the
-/// first twelve terms of the series at x = k·π/2048.
+/// first twelve terms of the series at x = k·π/8192.
 ///
 /// With x = A/B the sum is x·t1, where tn = 1 − x²/(2n·(2n+1))·t(n+1) and t12 = 1:
 /// eleven brackets and the leading x make twelve terms, to the 23rd power. The
 /// fraction is exact: whole numbers of any size, nothing rounded before the end.
 pub fn entry(k: usize) -> i64 {
     let A = Big::from(k as u128 * PI);
-    let B = Big::from(2048 * PI_SCALE);
+    let B = Big::from(8192 * PI_SCALE);
     let (A2, B2) = (A.times(&A), B.times(&B));
     let (mut over, mut under) = (Big::from(1), Big::from(1));
     for n in (1..=11u128).rev() {
@@ -58,7 +62,7 @@ impl Sine {
         TABLE.get_or_init(|| Sine(std::array::from_fn(entry)))
     }
 
-    /// All entries, 0 to 1024.
+    /// All entries, 0 to 4096.
     pub fn entries(&self) -> &[i64; LAST + 1] {
         &self.0
     }
@@ -89,11 +93,11 @@ impl Sine {
     /// The reading at g, 0 to 2^30, within the first quarter.
     #[inline]
     fn quarter(&self, g: u32) -> i64 {
-        let k = (g >> 20) as usize;
+        let k = (g >> SEGMENT_BITS) as usize;
         if k >= LAST {
             return self.0[LAST];
         }
-        let r = i64::from(g & ((1 << 20) - 1));
-        self.0[k] + (((self.0[k + 1] - self.0[k]) * r) >> 20)
+        let r = i64::from(g & ((1 << SEGMENT_BITS) - 1));
+        self.0[k] + (((self.0[k + 1] - self.0[k]) * r) >> SEGMENT_BITS)
     }
 }

@@ -2,5 +2,6 @@
 pub mod Tabulate
 pub mod Climbs
 pub mod Taken
+pub mod Finer
 pub mod Laws
 pub mod Only

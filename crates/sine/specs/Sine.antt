@@ -7,11 +7,11 @@ use lib.IntN.{ℤ, pos, negℤ}
 use Rattle.angle.specs.Turn.{quarterTurn, addOf}
 use Rattle.sine.specs.Table.{entryOf}
 
--- a table of 1,025 entries has 1,024 segments
+-- a table of 4,097 entries has 4,096 segments (document 02, wish 5)
 abbrev pub segments : ℕ
-segments = 1024
+segments = 4096
 
--- the units of a segment: 2^20
+-- the units of a segment: 2^18
 abbrev pub segment : ℕ
 segment = quarterTurn / segments
 
@@ -27,7 +27,7 @@ abbrev pub valuesFrom : (ℕ → ℕ) → ℕ → ℕ → List ℕ
 valuesFrom f i zero = []
 valuesFrom f i (suc n) = f i ∷ valuesFrom f (suc i) n
 
--- the table: entry k for k = 0 .. 1024
+-- the table: entry k for k = 0 .. 4096
 unfoldable pub sines : List ℕ
 sines = valuesFrom entryAt 0 (suc segments)
 
@@ -41,7 +41,7 @@ foldOf θ =
     let f = θ % quarterTurn in
     cond (eqb (quadrantOf θ % 2) 0) f (quarterTurn - f)
 
--- r units into a segment from a to b: a plus floor((b − a)·r/2^20)
+-- r units into a segment from a to b: a plus floor((b − a)·r/2^18)
 unfoldable pub wayOf : ℕ → ℕ → ℕ → ℕ
 wayOf a b r = a + (b - a) * r / segment
 
@@ -53,7 +53,7 @@ OnTheWay a b r = (a ≤ b) × (r < segment)
 abbrev pub InQuarter : ℕ → Type 0
 InQuarter g = g < quarterTurn
 
--- k = floor(g/2^20), r the rest: the way from entry k to entry k+1; at g = 2^30 entry 1024
+-- k = floor(g/2^18), r the rest: the way from entry k to entry k+1; at g = 2^30 entry 4096
 unfoldable pub readingOf : ℕ → ℕ
 readingOf g =
     let k = g / segment in

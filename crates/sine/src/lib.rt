@@ -8,12 +8,12 @@ mod entries;
 use angle::Angle;
 use entries::TABLE;
 
-const SEGMENTS: u32 = 1024;
+const SEGMENTS: u32 = 4096;
 
 const SEGMENT: u32 = Angle::QUARTER.units / SEGMENTS;
 
 // The table, to be made once and lent.
-pub fn table() -> [u32; 1025]
+pub fn table() -> [u32; 4097]
     ensures { λ r. ⌜ r ≡ sines ⌝ }
 {
     TABLE

@@ -5,6 +5,16 @@ pub use crate::common::random::Random;
 use host::record::{Interval, Job, Total, INTERVAL, TOTAL};
 use host::{days, list, Answer};
 
+/// Job 7 is hidden from here to here. By document 01's table of 1,025 entries the last was 4,200,000.
+///
+/// The far body is along x, so hidden is |Y| < 5,000,000, and Y is the floor of ±10^7·s/2^30, s the sine's size. At 3,000,000 and
+/// 4,200,000 the reading is in segment 1365, from 536,752,038 to 537,108,633, by 87,382 and 87,381 of 2^18 units: s is 536,870,903
+/// and 536,870,902, and 10^7·s/2^30 is 4,999,999.916.. and 4,999,999.906... Y is above 0 at the first, and its floor short of
+/// 5,000,000; at the second it is below 0, and its floor is −5,000,000, which is not hidden.
+pub const SHADOW: [u64; 2] = [3_000_000, 4_199_999];
+/// The instants that are asked: 13 samples, and both changes lie at the end of their steps of 600,000 ms.
+pub const ASKED: u64 = 13 + 20 + 20;
+
 /// Job 7 with another window.
 pub fn job7_in(t0: u64, t1: u64, step: u32) -> Job {
     Job {

@@ -23,8 +23,8 @@ fn program_with_nothing() {
 #[test]
 fn program_with_job_7() {
     let expected = [
-        interval(4 + 16, 3_000_000, 4_200_000).encode(),
-        closing(7, 512, 1, 52),
+        interval(4 + 16, SHADOW[0], SHADOW[1]).encode(),
+        closing(7, 512, 1, ASKED),
     ];
     assert_eq!(program(&job7().encode()), expected.concat());
 }
@@ -48,8 +48,8 @@ fn program_with_refusals_goes_on() {
     let expected = [
         closing(0x0102_0304, 260, 9, 0),
         closing(9, 258, 0, 0),
-        interval(4 + 16, 3_000_000, 4_200_000).encode(),
-        closing(7, 512, 1, 52),
+        interval(4 + 16, SHADOW[0], SHADOW[1]).encode(),
+        closing(7, 512, 1, ASKED),
         closing(0, 257, 0, 0),
     ];
     assert_eq!(program(&input.concat()), expected.concat());
@@ -78,27 +78,27 @@ fn totals_with_nothing() {
 #[test]
 fn totals_with_job_7() {
     let expected = [
-        &closing(7, 512, 1, 52)[..],
-        &total(0, 1, 1_200_001).encode(),
+        &closing(7, 512, 1, ASKED)[..],
+        &total(0, 1, 1_200_000).encode(),
     ];
     assert_eq!(totals(&job7().encode()), expected.concat());
 }
 
-/// Job 7 goes round twelve times a day, and each time is hidden from 3,000,000 to 4,200,000 ms. The
+/// Job 7 goes round twelve times a day, and each time is hidden for 1,200,000 ms. The
 /// window has the last turn of day 0, day 1 and the first ms of day 2.
 #[test]
 fn totals_with_two_midnights() {
     let record = job7_in(DAY - 7_200_000, 2 * DAY, 600_000).encode();
     let written = program(&record);
     let (list, end) = written.split_at(written.len() - INTERVAL);
-    let turn = |k: u64| interval(4 + 16, 7_200_000 * k + 3_000_000, 7_200_000 * k + 4_200_000);
+    let turn = |k: u64| interval(4 + 16, 7_200_000 * k + SHADOW[0], 7_200_000 * k + SHADOW[1]);
     let turns: Vec<u8> = (11..24).flat_map(|k| turn(k).encode()).collect();
     assert_eq!(list, turns);
     let asked = Interval::decode(end).unwrap().last;
     let expected = [
         &closing(7, 512, 3, asked)[..],
-        &total(0, 1, 1_200_001).encode(),
-        &total(1, 12, 12 * 1_200_001).encode(),
+        &total(0, 1, 1_200_000).encode(),
+        &total(1, 12, 12 * 1_200_000).encode(),
         &total(2, 0, 0).encode(),
     ];
     assert_eq!(totals(&record), expected.concat());
@@ -112,8 +112,8 @@ fn totals_with_refusals_goes_on() {
     let input = [&far.encode()[..], &job7().encode(), &[7, 7, 7, 7]];
     let expected = [
         &closing(7, 260, 9, 0)[..],
-        &closing(7, 512, 1, 52),
-        &total(0, 1, 1_200_001).encode(),
+        &closing(7, 512, 1, ASKED),
+        &total(0, 1, 1_200_000).encode(),
         &closing(0, 257, 0, 0),
     ];
     assert_eq!(totals(&input.concat()), expected.concat());

@@ -37,7 +37,7 @@ fn refusal_1_length() {
     }
     let longer = [&record[..], &[0]].concat();
     assert_eq!(answer_of(&longer, ROOM).0, Answer::refused(1, 0, 0));
-    assert_eq!(answer_of(&record, ROOM).0, listed(1, 52));
+    assert_eq!(answer_of(&record, ROOM).0, listed(1, ASKED));
 }
 
 #[test]
@@ -85,7 +85,7 @@ fn refusal_4_exactly_outside_the_range() {
 #[test]
 fn minus_zero_is_zero() {
     for k in [2, 3, 4, 5, 8, 9, 10, 11, 12, 13] {
-        assert_eq!(with_field(k, -0.0, 1), listed(1, 52), "field {k}");
+        assert_eq!(with_field(k, -0.0, 1), listed(1, ASKED), "field {k}");
     }
     for k in [1, 6, 7] {
         let expected = Answer::refused(4, k as u32, (-0.0f64).to_bits());

@@ -129,9 +129,9 @@ fn visible_is_up_and_not_hidden() {
     job.question = 2;
     let (answer, intervals) = run(&job);
     let before = interval(1 + 16, 36_000_000, 38_999_999);
-    let after = interval(4 + 2, 40_200_001, 43_200_000);
+    let after = interval(4 + 2, 40_200_000, 43_200_000);
     assert_eq!(intervals, [before, after]);
     assert_eq!(answer.intervals, 2);
     job.question = 1;
-    assert_eq!(run(&job).1, [interval(4 + 16, 39_000_000, 40_200_000)]);
+    assert_eq!(run(&job).1, [interval(4 + 16, 39_000_000, 40_199_999)]);
 }

@@ -27,7 +27,7 @@ fn the_big_numbers_reckon_right() {
 fn the_table_follows_its_rule() {
     let entries = Sine::table().entries();
     for (k, &value) in entries.iter().enumerate() {
-        let near = (k as f64 * std::f64::consts::PI / 2048.0).sin() * ONE as f64;
+        let near = (k as f64 * std::f64::consts::PI / 8192.0).sin() * ONE as f64;
         assert!(
             (value as f64 - near).abs() < 0.5 + 1e-5,
             "entry {k}: {value}"
@@ -35,15 +35,15 @@ fn the_table_follows_its_rule() {
     }
     assert!(entries.windows(2).all(|pair| pair[0] < pair[1]));
     // Worked out apart from this program, in exact fractions.
-    assert_eq!(entries[1], 1_647_099);
-    assert_eq!(entries[1023], 1_073_740_561);
-    assert_eq!(entries.iter().sum::<i64>(), 700_507_575_845);
+    assert_eq!(entries[1], 411_775);
+    assert_eq!(entries[4095], 1_073_741_745);
+    assert_eq!(entries.iter().sum::<i64>(), 2_800_420_205_319);
 }
 
 #[test]
 fn sine_between_entries() {
     let sine = Sine::table();
-    assert_eq!(sine.sin(1 << 19), 1_647_099 / 2);
+    assert_eq!(sine.sin(1 << 17), 411_775 / 2);
     assert_eq!(sine.sin(1), 1);
     assert_eq!(sine.sin(QUARTER - 1), (1 << 30) - 1);
     assert_eq!(sine.sin(QUARTER + 1), (1 << 30) - 1);
@@ -55,13 +55,43 @@ fn sine_between_entries() {
     let mut random = Random::of("sine_between_entries");
     for _ in 0..10_000 {
         let theta = random.bits() as u32;
-        let (k, s) = ((theta & (QUARTER - 1)) >> 20, sine.sin(theta));
-        let turned = |k: u32| sine.sin((theta & !(QUARTER - 1)).wrapping_add(k << 20));
+        let (k, s) = ((theta & (QUARTER - 1)) >> 18, sine.sin(theta));
+        let turned = |k: u32| sine.sin((theta & !(QUARTER - 1)).wrapping_add(k << 18));
         let (one, other) = (turned(k), turned(k + 1));
         assert!(
             one.min(other) <= s && s <= one.max(other),
             "{theta}: not between its entries"
         );
         assert_eq!(s, -sine.sin(theta.wrapping_neg()));
+        // A chord is short of the sine by up to (π/8192)²/8 = 1.84·10^-8, and the two roundings by up to 1.4·10^-9.
+        let real = (f64::from(theta) / 2f64.powi(32) * std::f64::consts::TAU).sin();
+        assert!((s as f64 / ONE as f64 - real).abs() < 2e-8, "{theta}");
+    }
+}
+
+/// Document 02, wish 5: the edges of a slow, high orbit. A round orbit in one plane with the far body is hidden where it is
+/// within asin(R/a) of the point opposite to the body.
+///
+/// A reading is short by up to (π/8192)²/8, so 1.84·10^-8 of one: X² + Y² by up to 3.7·10^-8 of a², and d², where readings
+/// are multiplied twice, by up to 7.4·10^-8. So what is compared with R² is off by up to 4.7·10^9 m². Beside R that
+/// is 0.39 km, for which the craft takes half a second. With 1,025 entries it was sixteen times as much.
+#[test]
+fn edges_of_a_slow_high_orbit() {
+    let (axis, period, radius) = (250_000.0f64, 2_000_000.0, 6_052.0);
+    let half = (radius / axis).asin().to_degrees();
+    let ms = |degrees: f64| degrees / 360.0 * period * 1000.0;
+    for k in 0..200 {
+        let middle = 10.0 + 1.763 * f64::from(k);
+        let mut job = job7_in(ms(middle - 5.0) as u64, ms(middle + 5.0) as u64, 1_000_000);
+        (job.fields[0], job.fields[5], job.fields[6]) = (axis, period, radius);
+        job.fields[7] = (middle + 180.0) % 360.0;
+        let [shadow] = run(&job).1[..] else {
+            panic!("{job:?}")
+        };
+        let off = [
+            shadow.first as f64 - ms(middle - half),
+            shadow.last as f64 - ms(middle + half),
+        ];
+        assert!(off.iter().all(|ms| ms.abs() < 500.0), "{off:?} ms, {job:?}");
     }
 }

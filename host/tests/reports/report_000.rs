@@ -120,8 +120,8 @@ fn appendix_c_sun_and_canopus_are_never_hidden() {
     }
 }
 
-/// What 1,025 entries of sine are good for.
-const TABLE: f64 = 5e-7;
+/// What 4,097 entries of sine are good for: a reading is within 2·10^-8, and up to three are multiplied.
+const TABLE: f64 = 5e-8;
 
 /// PX to WZ. No program prints the rotation, so P and Q are seen through d; and the independent implementation's rows are
 /// looked at themselves, W too, which no answer uses.

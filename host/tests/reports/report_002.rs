@@ -60,8 +60,8 @@ fn an_example_mars_over_goldstone() {
     assert_eq!(flags, [8 + 32, 8 + 16, 4 + 32, 8 + 16, 4 + 32]);
     for (turn, [first, last]) in (0..).zip(up) {
         let ms = |minute: f64| (f64::from(turn) * TURN_MINUTES + minute) * 60_000.0;
-        assert_near(ms(rise), first as f64, 2.0, "rise, ms");
-        assert_near(ms(set), last as f64, 2.0, "set, ms");
+        assert_near(ms(rise), first as f64, 1.0, "rise, ms");
+        assert_near(ms(set), last as f64, 1.0, "set, ms");
     }
 }
 

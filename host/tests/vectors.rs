@@ -1,12 +1,12 @@
 //! Inputs and outputs that others worked out from the documents, in vectors: the independent implementation gives the
-//! same bytes. That the proved program does is what the gate's tests/vectors is for.
+//! same bytes, or for document 01 alone the same refusals. The proved program is held to them by the gate's tests/vectors.
 
 use host::program::{LISTED, REFUSED};
 use host::record::{Interval, INTERVAL};
 use std::fs;
 use std::path::Path;
 
-/// For each input of a folder, what the program writes is the folder's output: `same` is asked of the two.
+/// For each input of a folder `same` is asked of what the program writes and of the folder's output.
 fn hold(folder: &str, mut same: impl FnMut(&[u8], &[u8]) -> bool) {
     let path = Path::new(env!("CARGO_MANIFEST_DIR")).join("../vectors");
     let files = fs::read_dir(path.join(folder)).expect(folder);
@@ -46,7 +46,8 @@ fn every_vector_after_wish_5() {
     hold("after-wish-5", |written, expected| written == expected);
 }
 
-/// Wish 5 moved every list. But a job that was refused is refused alike, and a job that was not still has a list.
+/// By wishes 1, 2 and 5 any list may have moved. But a job that was refused is refused alike, and a job that was not still
+/// has a list.
 #[test]
 fn every_vector_of_the_base() {
     let [mut lists, mut refusals] = [0; 2];

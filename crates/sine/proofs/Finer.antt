@@ -1,4 +1,4 @@
--- A finer table keeps the entries of a coarser one: with c times as many segments entry c·k is entry k, since both are at the same angle.
+-- A finer table keeps the entries of a coarser one: with c times as many segments, entry c·k of the finer is entry k of the coarser, being at the same angle.
 use mathlib.Core.Path.{_≡_}
 use Prim.Native.Nat.{ℕ, zero, suc, _+_, _-_, _*_, _/_, _^_, _≤_, _<_}
 use native.Mathlib.Nat.{mul-assoc, mul-comm, mul-left-comm, mul-add, mul-sub, mul-pos, mul-div-mul-left, pow-zero, pow-succ'}
@@ -8,9 +8,9 @@ use lib.Pow.{pow-add}
 use Rattle.nearest.specs.Nearest.{nearest}
 use Rattle.sine.specs.Table.{π, π-unit, factorial, term, added, taken, scaledSine, entryOf}
 
-pow-pos : (c n : ℕ) → 0 < c → 0 < c ^ n
-pow-pos c zero h = rw pow-zero (lit< tt)
-pow-pos c (suc n) h = rw pow-succ' (mul-pos h (pow-pos c n h))
+power-pos : (c n : ℕ) → 0 < c → 0 < c ^ n
+power-pos c zero h = rw pow-zero (lit< tt)
+power-pos c (suc n) h = rw pow-succ' (mul-pos h (power-pos c n h))
 
 mul-pow : (c a n : ℕ) → (c * a) ^ n ≡ c ^ n * a ^ n
 mul-pow c a zero = simp pow-zero
@@ -22,6 +22,7 @@ nearest-same c n d h =
     let under : 2 * (c * d) ≡ c * (2 * d) = mul-left-comm 2 c d in
     rw (over, under) (mul-div-mul-left (2 * n + d) (2 * d) h)
 
+-- every second term from p on: from 0 on those that are added, from 1 on those that are taken away
 abbrev six : (ℕ → ℕ) → ℕ → ℕ
 six f p = f p + f (p + 2) + f (p + 4) + f (p + 6) + f (p + 8) + f (p + 10)
 
@@ -36,7 +37,6 @@ module _ (c a b : ℕ) where
       let apart : c ^ m * a ^ m * (c ^ n * b ^ n) * f ≡ c ^ m * c ^ n * (a ^ m * b ^ n * f) = simp (mul-assoc, mul-comm, mul-left-comm) in
       rw (mul-pow c a m, mul-pow c b n, apart, ← pow-add c m n, all)
 
-  -- every second term from p on: those that are added from 0 on, those that are taken away from 1 on
   same-six : (p : ℕ) → p ≤ 1 → six (term (c * a) (c * b)) p ≡ c ^ 23 * six (term a b) p
   same-six p h =
       simp (
@@ -64,7 +64,7 @@ module _ (c a b : ℕ) where
       let d = added a b - taken a b in
       let over : 2 ^ 30 * (c ^ 23 * added a b - c ^ 23 * taken a b) ≡ c ^ 23 * (2 ^ 30 * d) = rw (← mul-sub (c ^ 23) (added a b) (taken a b)) (mul-left-comm (2 ^ 30) (c ^ 23) d) in
       let under : (c * b) ^ 23 * factorial 23 ≡ c ^ 23 * (b ^ 23 * factorial 23) = rw (mul-pow c b 23) (mul-assoc (c ^ 23) (b ^ 23) (factorial 23)) in
-      rw (same-added, same-taken, over, under) (nearest-same (c ^ 23) (2 ^ 30 * d) (b ^ 23 * factorial 23) (pow-pos c 23 h))
+      rw (same-added, same-taken, over, under) (nearest-same (c ^ 23) (2 ^ 30 * d) (b ^ 23 * factorial 23) (power-pos c 23 h))
 
 pub finer-keeps : (c n k : ℕ) → 0 < c → entryOf (c * n) (c * k) ≡ entryOf n k
 unfolding entryOf

@@ -1,4 +1,4 @@
--- The laws that the proofs of `sine`, and of the crates above it, cite.
+-- The laws that the proofs of `sine`, and of the crates above it, cite; and `Finer`, about two tables, for readers alone.
 pub mod Tabulate
 pub mod Climbs
 pub mod Taken

@@ -84,7 +84,7 @@ fn totals_with_job_7() {
     assert_eq!(totals(&job7().encode()), expected.concat());
 }
 
-/// Job 7 goes round twelve times a day, and each time is hidden for 1,200,000 ms. The
+/// Job 7 goes round twelve times a day, and each time is hidden at 1,200,000 instants. The
 /// window has the last turn of day 0, day 1 and the first ms of day 2.
 #[test]
 fn totals_with_two_midnights() {

@@ -120,7 +120,7 @@ fn appendix_c_sun_and_canopus_are_never_hidden() {
     }
 }
 
-/// What 4,097 entries of sine are good for: a reading is within 2·10^-8, and up to three are multiplied.
+/// What 4,097 entries of sine are good for. None of these is off by 4·10^-8.
 const TABLE: f64 = 5e-8;
 
 /// PX to WZ. No program prints the rotation, so P and Q are seen through d; and the independent implementation's rows are

@@ -41,7 +41,7 @@ extern "C" {
 #define QUECHOTZAL_INTERVALS_AT 16u /* u64: how many intervals were written, or how many days the summary has; 0 for a refusal */
 #define QUECHOTZAL_ASKED_AT 24u     /* u64: how many instants were asked; 0 for a refusal, and always 0 beside a summary */
 
-/* The refusals. The first that applies is given, in this order, but 3 and 4 together: fields in number order, 3 before 4 for each. */
+/* The refusals. The first that applies is given, in this order, but 3 and 4 together: fields in number order, 3 before 4 for each. 10 is no longer used. */
 #define QUECHOTZAL_REFUSED_LENGTH 1u       /* record_length is not 136 */
 #define QUECHOTZAL_REFUSED_WORD 2u         /* bytes 4 to 7 are not zero */
 #define QUECHOTZAL_REFUSED_NOT_FINITE 3u   /* a field is NaN or infinite */
@@ -51,7 +51,6 @@ extern "C" {
 #define QUECHOTZAL_REFUSED_STEP 7u         /* the step is 0 or above 1,048,576 ms, or there are more than 4,096 steps */
 #define QUECHOTZAL_REFUSED_QUESTION 8u     /* the question is neither 1 (hidden) nor 2 (visible) */
 #define QUECHOTZAL_REFUSED_ROOM 9u         /* list_length is under 24 * ceil((n + 1) / 2), n steps */
-#define QUECHOTZAL_REFUSED_KEPLER 10u      /* the search of the place in the orbit did not end; it always does */
 
 /* Of a summary, behind the job's own, of which 9 does not come up there; 11 before 12. */
 #define QUECHOTZAL_REFUSED_SUMMARY_ROOM 11u /* the summary's buffer has less than 16 bytes for each day that the window touches */

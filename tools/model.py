@@ -237,7 +237,7 @@ def steps(t0, t1, step):
 
 
 def refusal(piece, room):
-    """The first that applies: its number and field. None for a job that is taken. 10 never applies: 32 halvings of 2^32 end at neighbours."""
+    """The first that applies: its number and field. None for a job that is taken."""
     if len(piece) != 136:
         return 1, 0
     r = read(piece)

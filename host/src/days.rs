@@ -1,8 +1,8 @@
 //! Document 02, wish 3: totals by day beside the list.
 
-use crate::job::{accepted, Answer};
+use crate::job::Answer;
 use crate::record::{Interval, Job, Total, INTERVAL, TOTAL};
-use crate::refusal::{refuse_if, room_for, Refusal, MOST_STEPS};
+use crate::refusal::{self, refuse_if, room_for, Refusal, MOST_STEPS};
 use std::ops::RangeInclusive;
 
 /// A day, ms; the epoch begins day 0.
@@ -38,7 +38,7 @@ pub fn append(record: &[u8], list: &[u8], interval: &[u8], summary: &mut [u8]) -
 /// The job's own refusals, then 11, then 12 for the list.
 fn check(record: &[u8], list: &[u8], room: usize) -> Result<Summed, Refusal> {
     // 9 only where a list is written: here there is room for any.
-    let (job, _) = accepted(record, room_for(MOST_STEPS) as usize)?;
+    let job = refusal::check(record, room_for(MOST_STEPS) as usize)?;
     let mut summed = Summed::nothing(job);
     refuse_if(room < TOTAL * summed.totals.len(), Refusal::SummaryRoom)?;
     for piece in list.chunks(INTERVAL) {

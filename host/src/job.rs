@@ -41,9 +41,9 @@ impl From<Refusal> for Answer {
 /// One job whole: any bytes as record, any lent list. Writes the interval
 /// records from byte 0 on success, and nothing else.
 pub fn list(record: &[u8], list: &mut [u8]) -> Answer {
-    match accepted(record, list.len()) {
-        Ok((job, sight)) => {
-            let Found { intervals, asked } = write(&job, &sight, list);
+    match check(record, list.len()) {
+        Ok(job) => {
+            let Found { intervals, asked } = write(&job, &Sight::of(&job), list);
             Answer {
                 refusal: 0,
                 field: 0,
@@ -54,17 +54,6 @@ pub fn list(record: &[u8], list: &mut [u8]) -> Answer {
         }
         Err(refusal) => refusal.into(),
     }
-}
-
-/// Document 01, Turned away: rows 1 to 9, then 10. Each halving of 0..2^32
-/// leaves half the width whatever the answers, so one search shows all.
-pub(crate) fn accepted(record: &[u8], room: usize) -> Result<(Job, Sight), Refusal> {
-    let job = check(record, room)?;
-    let sight = Sight::of(&job);
-    if sight.shadow.place.width(job.t0) > 1 {
-        return Err(Refusal::Kepler);
-    }
-    Ok((job, sight))
 }
 
 /// Writes the accepted job's intervals one after the other. The room, tested

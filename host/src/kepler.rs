@@ -7,8 +7,6 @@ use crate::sine::Sine;
 pub const TURN: i64 = 1 << 32;
 /// The nearest whole number to 2^32/2π.
 pub const UNITS_PER_RADIAN: i64 = 683_565_276;
-/// The halvings after which the search must have ended (refusal 10).
-pub const HALVINGS: u32 = 32;
 
 /// Kepler's equation for one eccentricity.
 #[derive(Clone, Copy)]
@@ -25,21 +23,19 @@ impl Kepler {
         E - scaled(scaled(self.e, self.sine.sin(E as u32)), UNITS_PER_RADIAN)
     }
 
-    /// The search's low and high when they are neighbours, or after 32
-    /// halvings. E is the low one: K(E) ≤ M < K(E+1).
+    /// E, the search's low when low and high are neighbours:
+    /// K(E) ≤ M < K(E+1).
     #[inline]
-    pub fn search(&self, M: i64) -> (i64, i64) {
+    pub fn search(&self, M: i64) -> i64 {
         let (mut low, mut high) = (0, TURN);
-        let mut halvings = 0;
-        while high - low > 1 && halvings < HALVINGS {
+        while high - low > 1 {
             let middle = (low + high) / 2;
             if self.K(middle) <= M {
                 low = middle;
             } else {
                 high = middle;
             }
-            halvings += 1;
         }
-        (low, high)
+        low
     }
 }

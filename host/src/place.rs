@@ -39,16 +39,10 @@ impl Place {
         i64::from(part_of_turn(t, self.p))
     }
 
-    /// How far apart the search's ends are when it stops (refusal 10).
-    pub fn width(&self, t: u64) -> i64 {
-        let (low, high) = self.kepler.search(self.M(t));
-        high - low
-    }
-
     /// X = a∘(cos E − e), Y = (a∘q)∘sin E, in metres.
     #[inline]
     pub fn at(&self, t: u64) -> (i64, i64) {
-        let (E, _) = self.kepler.search(self.M(t));
+        let E = self.kepler.search(self.M(t));
         let (sine, e) = (self.kepler.sine, self.kepler.e);
         let X = scaled(self.a, sine.cos(E as u32) - e);
         let Y = scaled(self.aq, sine.sin(E as u32));

@@ -10,7 +10,7 @@ pub const LONGEST_STEP: u32 = 1_048_576;
 /// The most steps of a window.
 pub const MOST_STEPS: u64 = 4096;
 
-/// The table's ten rows, and wish 3's two.
+/// The table's rows, and wish 3's two. 10 isn't used again (wish 6).
 #[derive(Debug, Clone, Copy, PartialEq, Eq)]
 pub enum Refusal {
     Length,
@@ -22,7 +22,6 @@ pub enum Refusal {
     Step,
     Question,
     Room,
-    Kepler,
     SummaryRoom,
     List,
 }
@@ -40,7 +39,6 @@ impl Refusal {
             Refusal::Step => (7, 0, 0),
             Refusal::Question => (8, 0, 0),
             Refusal::Room => (9, 0, 0),
-            Refusal::Kepler => (10, 0, 0),
             Refusal::SummaryRoom => (11, 0, 0),
             Refusal::List => (12, 0, 0),
         }
@@ -108,7 +106,7 @@ pub fn room_for(n: u64) -> u64 {
 }
 
 /// Rows 1 to 9 in order: the record's numbers, or the first refusal that
-/// applies. Row 10 follows in the job, where the search is at hand.
+/// applies.
 pub fn check(record: &[u8], room: usize) -> Result<Job, Refusal> {
     let job = Job::decode(record).ok_or(Refusal::Length)?;
     refuse_if(job.word != 0, Refusal::Word)?;

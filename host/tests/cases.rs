@@ -138,7 +138,7 @@ fn listed(piece: &[u8]) -> (Answer, Vec<Interval>) {
     (answer, records.take(answer.intervals as usize).collect())
 }
 
-/// Every refusal of the program, and 3 and 4 for every field, comes up; 9 and 10 cannot.
+/// Every refusal of the program, and 3 and 4 for every field, comes up; 9 cannot.
 #[test]
 fn every_refusal_comes_up() {
     let mut random = Random::of("every_refusal_comes_up");

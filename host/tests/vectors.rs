@@ -43,7 +43,7 @@ fn closings(output: &[u8]) -> Vec<Interval> {
 
 #[test]
 fn every_vector_after_wish_5() {
-    hold("after-wish-5", |written, expected| written == expected);
+    hold("after-wish-6", |written, expected| written == expected);
 }
 
 /// By wishes 1, 2 and 5 any list may have moved. But a job that was refused is refused alike, and a job that was not still

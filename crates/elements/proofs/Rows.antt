@@ -15,7 +15,7 @@ use Rattle.words.proofs.Laws.{read-lt}
 use Rattle.refusal.specs.Refusal.{orderOf, fieldOf}
 use Rattle.refusal.specs.Rows.{when, rowAt, Passes}
 use Rattle.refusal.specs.declared.Refusal.{Refusal}
-use Rattle.refusal.specs.declared.Refusal.the-variants.{Length, Word, NotFinite, OutOfRange, TooClose, Window, Step, Question, Room, Kepler}
+use Rattle.refusal.specs.declared.Refusal.the-variants.{Length, Word, NotFinite, OutOfRange, TooClose, Window, Step, Question, Room}
 use Rattle.refusal.specs.declared.Verdict.{Verdict}
 use Rattle.refusal.specs.declared.Verdict.the-variants as verdict
 use Rattle.refusal.proofs.Order.{not-both, when-refused, when-passed, when-order, row-append, Each, Ordered, each-weaker}
@@ -183,7 +183,6 @@ named-later Window h = lit< tt
 named-later Step h = lit< tt
 named-later Question h = lit< tt
 named-later Room h = lit< tt
-named-later Kepler h = lit< tt
 
 pub length-passed : (s : List ℕ) → when (not (eqb (length s) 136)) Length ≡ verdict.Passed → WholeRecord s
 length-passed s h = eqb-true (length s) 136 (not-false (eqb (length s) 136) (when-passed (not (eqb (length s) 136)) Length h))

@@ -4,8 +4,6 @@ use Rattle.geometry.proofs.rotation_of.Kinds as rotation-of
 use Rattle.geometry.proofs.rotation_of.Reads as rotation-of-reads
 use Rattle.geometry.proofs.prepare.Kinds as prepare
 use Rattle.geometry.proofs.prepare.Reads as prepare-reads
-use Rattle.geometry.proofs.settles.Kinds as settles
-use Rattle.geometry.proofs.settles.Reads as settles-reads
 use Rattle.geometry.proofs.place_of.Kinds as place-of
 use Rattle.geometry.proofs.place_of.Reads as place-of-reads
 use Rattle.geometry.proofs.depth.Kinds as depth
@@ -24,9 +22,6 @@ rotation-of-only κs a x y s t p q = by-value _ p q
 
 pub prepare-only : OneResult 1 prepare.ps prepare.r prepare-reads.Post
 prepare-only κs a x y s t p q = by-value _ p q
-
-pub settles-only : OneResult 1 settles.ps settles.r settles-reads.Post
-settles-only κs a x y s t p q = by-value _ p q
 
 pub place-of-only : OneResult 1 place-of.ps place-of.r place-of-reads.Post
 place-of-only κs a x y s t p q = by-value _ p q

@@ -4,8 +4,8 @@ ghost use Rattle.fixed.specs.Within.{Within};
 ghost use Rattle.sine.specs.Sine.{sines};
 ghost use Rattle.elements.specs.Rounding.{Bounded};
 ghost use Rattle.geometry.specs.Prepared.{minorOf, ellipseOf, rotationFor, towardOf, bodyOf, stationOf, orbitOf};
-ghost use Rattle.geometry.specs.Ready.{Ready, SoundOrbit, InOrbit, deepest};
-ghost use Rattle.geometry.specs.Placed.{meanOf, anomalyOf, settlesAt, placeOf};
+ghost use Rattle.geometry.specs.Ready.{Ready, InOrbit, deepest};
+ghost use Rattle.geometry.specs.Placed.{anomalyOf, placeOf};
 ghost use Rattle.geometry.specs.Hidden.{depthOf, behindOf, hiddenAt};
 ghost use Rattle.geometry.specs.Visible.{termAt, zenithOf, upAt, visibleAt, answerAt};
 ghost use Rattle.geometry.specs.Sight.{sightAt, Answered};
@@ -146,29 +146,13 @@ pub fn prepare(t: &[u32], w: Wholes) -> Orbit
     }
 }
 
-// M, the mean anomaly at an instant.
-fn mean(o: Orbit, at: u64) -> Angle
-    requires { ⌜ SoundOrbit o ⌝ }
-    ensures { λ r. ⌜ r .units ≡ meanOf o at ⌝ }
-{
-    kepler::phase(o.ellipse.period, at)
-}
-
-// Whether Kepler's search at an instant ends no wider than one unit: refusal 10 is for where it does not.
-pub fn settles(t: &[u32], o: Orbit, at: u64) -> bool
-    requires { ⌜ Ready (now t) o ⌝ }
-    ensures { λ r. ⌜ r ≡ settlesAt o at ⌝ }
-{
-    let s = kepler::search(t, o.ellipse.eccentricity, mean(o, at));
-    s.high <= s.low + 1
-}
-
-// E of Kepler's equation, the eccentric anomaly at an instant.
+// E of Kepler's equation, the eccentric anomaly at an instant, from M.
 fn anomaly(t: &[u32], o: Orbit, at: u64) -> Angle
     requires { ⌜ Ready (now t) o ⌝ }
     ensures { λ r. ⌜ r .units ≡ anomalyOf o at ⌝ }
 {
-    kepler::eccentric(t, o.ellipse.eccentricity, mean(o, at))
+    let m = kepler::phase(o.ellipse.period, at);
+    kepler::eccentric(t, o.ellipse.eccentricity, m)
 }
 
 // The place at an instant.

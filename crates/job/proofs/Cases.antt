@@ -1,16 +1,16 @@
 -- The job's cases, each from what its parts answered: a refusal stops, and a pass hands on to the rows behind it.
 use Prim.Native.Nat.{ℕ}
-use mathlib.Core.Path.{_≡_, refl, sym, ap, _∙_}
+use mathlib.Core.Path.{_≡_, refl, ap, _∙_}
 use mathlib.Core.Bool.{Bool}
-use mathlib.Core.List.{List}
+use mathlib.Core.List.{List, [], _∷_}
 use lib.ListN.{length}
 use lib.Seq.{sets}
 use Rattle.refusal.specs.Rows.{_then_, first}
 use Rattle.refusal.specs.declared.Refusal.{Refusal}
 use Rattle.refusal.specs.declared.Verdict.{Verdict}
 use Rattle.refusal.specs.declared.Verdict.the-variants as verdict
-use Rattle.refusal.proofs.Order.{first-append, then-assoc, then-passed, stops, goes, first-exactly, passed-exactly}
-use Rattle.elements.specs.Reading.{recordRows, elementsOf, readingOf}
+use Rattle.refusal.proofs.Order.{first-append, then-passed, stops, goes, first-exactly, passed-exactly}
+use Rattle.elements.specs.Reading.{recordRows, readingOf}
 use Rattle.elements.specs.declared.reading.Elements.{Elements}
 use Rattle.elements.specs.declared.reading.Reading.the-variants as reading
 use Rattle.elements.proofs.Rows.{ordered}
@@ -20,7 +20,7 @@ use Rattle.finder.specs.declared.Window.{Window}
 use Rattle.finder.specs.declared.Found.{Found}
 use Rattle.finder.specs.Spans.{listOf}
 use Rattle.finder.specs.Records.{recordsOf, foundOf}
-use Rattle.job.specs.Table.{windowOf, questionOf, windowRow, stepRow, questionRow, roomRow, rowsBeforeSearch, rowsFromSearch, rowsFromWindow, tableOf}
+use Rattle.job.specs.Table.{windowOf, questionOf, roomRow, rowsButRoom, rowsFromWindow, tableOf, tableButRoom}
 use Rattle.job.specs.Outcome.{answersOf, sightsOf, answersIn, sightsIn, outcomeFrom, recordsFrom, outcomeOf, recordsIn, listAfter}
 use Rattle.job.specs.declared.Outcome.{Outcome}
 use Rattle.job.specs.declared.Outcome.the-variants.{Listed, Refused}
@@ -42,22 +42,20 @@ module _ (f : ℕ → Bool) (g : ℕ → Sight) (w : Window) (old : List ℕ) wh
 
 -- ---- a table in two parts
 
--- 6 and 7, then 8 and 9
-pub before-parts : (w : Window) (q room : ℕ) → first (rowsBeforeSearch w q room) ≡ ((windowRow w then stepRow w) then (questionRow q then roomRow w room))
+-- 6 to 8, then 9
+pub window-parts : (w : Window) (q room : ℕ) → first (rowsFromWindow w q room) ≡ (first (rowsButRoom w q) then roomRow w room)
 unfolding first
-before-parts w q room =
-    sym (then-assoc (windowRow w) (stepRow w) (questionRow q then roomRow w room then verdict.Passed))
-    ∙ ap (λ (v : Verdict). (windowRow w then stepRow w) then (questionRow q then v)) (then-passed (roomRow w room))
+window-parts w q room = first-append (rowsButRoom w q) (roomRow w room ∷ []) ∙ ap (λ (v : Verdict). first (rowsButRoom w q) then v) (then-passed (roomRow w room))
 
--- 6 to 9, then 10
-pub window-parts : (e : Elements) (w : Window) (q room : ℕ) → first (rowsFromWindow e w q room) ≡ (first (rowsBeforeSearch w q room) then first (rowsFromSearch e w))
-window-parts e w q room = first-append (rowsBeforeSearch w q room) (rowsFromSearch e w)
+-- 1 to 5, then 6 to 9
+pub table-parts : (s : List ℕ) (room : ℕ) → first (tableOf s room) ≡ (first (recordRows s) then first (rowsFromWindow (windowOf s) (questionOf s) room))
+unfolding tableOf
+table-parts s room = first-append (recordRows s) (rowsFromWindow (windowOf s) (questionOf s) room)
 
--- 1 to 5, then 6 to 10
-module _ (s : List ℕ) (room : ℕ) where
-  pub table-parts : first (tableOf s room) ≡ (first (recordRows s) then first (rowsFromWindow (elementsOf s) (windowOf s) (questionOf s) room))
-  unfolding tableOf
-  table-parts = first-append (recordRows s) (rowsFromWindow (elementsOf s) (windowOf s) (questionOf s) room)
+-- 1 to 5, then 6 to 8
+pub admit-parts : (s : List ℕ) → first (tableButRoom s) ≡ (first (recordRows s) then first (rowsButRoom (windowOf s) (questionOf s)))
+unfolding tableButRoom
+admit-parts s = first-append (recordRows s) (rowsButRoom (windowOf s) (questionOf s))
 
 -- ---- the whole job
 
@@ -72,7 +70,7 @@ module _ (s old : List ℕ) where
       refused (answersIn s) (sightsIn s) (windowOf s) old (first (tableOf s (length old))) r (stops _ _ _ (table-parts s (length old)) r gives)
 
   pub was-read : (e : Elements) (r : Outcome) (new : List ℕ) → readingOf s ≡ reading.Read e
-      → Answers (answersOf e (questionOf s)) (sightsOf e (questionOf s)) (windowOf s) old (first (rowsFromWindow e (windowOf s) (questionOf s) (length old))) r new → Meets r new
+      → Answers (answersOf e (questionOf s)) (sightsOf e (questionOf s)) (windowOf s) old (first (rowsFromWindow (windowOf s) (questionOf s) (length old))) r new → Meets r new
   unfolding outcomeOf listAfter recordsIn
   was-read e r new h a =
       let p = read-exactly s e .0 h in

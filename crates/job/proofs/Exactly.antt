@@ -26,15 +26,14 @@ use Rattle.elements.specs.Reading.{WholeRecord, elementsOf, fieldRows, recordRo
 use Rattle.elements.specs.Accepted.{Accepted}
 use Rattle.elements.proofs.Rows.{Told, plain, told, ordered, passed-accepted, field-row, named-later, length-passed}
 use Rattle.elements.proofs.Exactly as reading
-use Rattle.geometry.specs.Placed.{settlesAt}
 use Rattle.finder.specs.declared.Window.{Window}
 use Rattle.finder.specs.Samples.{mostSteps, Good, stepsOf}
 use Rattle.finder.specs.Spans.{listOf}
 use Rattle.finder.specs.Records.{recordsOf, foundOf, roomOf}
-use Rattle.job.specs.Table.{windowOf, questionOf, badWindow, badStep, badQuestion, noRoom, orbitWith, rowsFromWindow, tableOf}
+use Rattle.job.specs.Table.{windowOf, questionOf, badWindow, badStep, badQuestion, noRoom, rowsFromWindow, tableOf}
 use Rattle.job.specs.Outcome.{intervalsOf, askedOf, answersIn, sightsIn, outcomeFrom, recordsFrom, outcomeOf, recordsIn, listAfter}
 use Rattle.job.specs.declared.Outcome.the-variants.{Listed, Refused}
-use Rattle.job.proofs.Laws.{both, good, few-steps, one-or-two, roomy, kepler-passes}
+use Rattle.job.proofs.Laws.{both, good, few-steps, one-or-two, roomy}
 use Rattle.job.proofs.Cases.{table-parts}
 
 -- ---- the outcome and the verdict
@@ -71,13 +70,11 @@ module _ (s : List ℕ) (room : ℕ) where
   unfolding tableOf fieldRows
   told-all =
       let w = windowOf s in
-      let e = elementsOf s in
-      each-append (recordRows s) (rowsFromWindow e w (questionOf s) room) (told s)
+      each-append (recordRows s) (rowsFromWindow w (questionOf s) room) (told s)
       ((λ r h. plain s (badWindow w) refusal.Window r refl h)
       also (λ r h. plain s (badStep w) refusal.Step r refl h)
       also (λ r h. plain s (badQuestion (questionOf s)) refusal.Question r refl h)
       also (λ r h. plain s (noRoom w room) refusal.Room r refl h)
-      also (λ r h. plain s (not (settlesAt (orbitWith e) (w .t0))) refusal.Kepler r refl h)
       also done)
 
   rows-ordered : Ordered (tableOf s room)
@@ -108,7 +105,7 @@ module _ (s : List ℕ) (room : ℕ) where
     unfolding tableOf fieldRows
     own =
         let row = field-row s k least most in
-        (row .0, row-append (recordRows s) (rowsFromWindow (elementsOf s) (windowOf s) (questionOf s) room) (1 + k) (omega arith) ∙ row .1)
+        (row .0, row-append (recordRows s) (rowsFromWindow (windowOf s) (questionOf s) room) (1 + k) (omega arith) ∙ row .1)
 
     -- with its bits, where it is NaN or infinite
     pub not-finite-refused : finite x ≡ false → outcomeOf s room ≡ Refused (refusal.NotFinite k x (bitsIn s k))
@@ -141,11 +138,6 @@ module _ (s : List ℕ) (room : ℕ) where
       let stopped : first (recordRows s) ≡ verdict.Passed → ⊥ = λ p. not-both (passed-exactly (recordRows s) .0 p 15) applies in
       let own = first-part _ _ r (sym (table-parts s room) ∙ refused-first r h) stopped in
       reading.refused-distance s d (reading.refused-exactly s r .1 (first-exactly (recordRows s) (ordered s) r .0 own))
-
-  -- Kepler's search always settles, so no job is refused for it
-  pub kepler-never : outcomeOf s room ≡ Refused refusal.Kepler → ⊥
-  unfolding tableOf fieldRows rowAt
-  kepler-never h = not-both (kepler-passes (elementsOf s) (windowOf s)) (refused-exactly refusal.Kepler .0 h .applies)
 
   -- ---- a list
 

@@ -1,4 +1,4 @@
--- What follows from rows 6 to 10 that pass, test by test: a good window of at most 4,096 steps, question 1 or 2, and enough room.
+-- What follows from rows 6 to 9 that pass, test by test: a good window of at most 4,096 steps, question 1 or 2, and enough room.
 use Prim.Native.Nat.{ℕ, suc, _+_, _-_, _*_, _/_, _≤_, _<_}
 use mathlib.Core.Path.{_≡_, refl, sym, ap, _∙_}
 use mathlib.Core.Logic.{_⊎_, inl, inr}
@@ -15,12 +15,10 @@ use Rattle.refusal.specs.declared.Refusal.the-variants as refusal
 use Rattle.refusal.specs.declared.Verdict.{Verdict}
 use Rattle.refusal.specs.declared.Verdict.the-variants.{Passed}
 use Rattle.refusal.proofs.Order.{then-passed, when-passed, passed-exactly}
-use Rattle.elements.specs.declared.reading.Elements.{Elements}
-use Rattle.geometry.proofs.Laws.{settles-always}
 use Rattle.finder.specs.declared.Window.{Window}
 use Rattle.finder.specs.Samples.{lastEnd, longestStep, mostSteps, Good, stepsOf}
 use Rattle.finder.specs.Records.{roomOf}
-use Rattle.job.specs.Table.{badWindow, badStep, badQuestion, noRoom, windowRow, stepRow, questionRow, roomRow, orbitWith, keplerRow, rowsBeforeSearch}
+use Rattle.job.specs.Table.{badWindow, badStep, badQuestion, noRoom, windowRow, stepRow, questionRow, roomRow, rowsButRoom}
 
 neither : (a b : Bool) → (a || b) ≡ false → (a ≡ false) × (b ≡ false)
 neither true b h = (h, absurd (true≢false h))
@@ -78,10 +76,7 @@ module _ (w : Window) (h6 : windowRow w ≡ Passed) (h7 : stepRow w ≡ Passed) 
   pub few-steps : stepsOf w ≤ mostSteps
   few-steps = ltb-false mostSteps (stepsOf w) (step-tests .1)
 
-pub both-good : (w : Window) → (windowRow w then stepRow w) ≡ Passed → Good w
-both-good w h = let p = both (windowRow w) (stepRow w) h in good w (p .0) (p .1)
-
--- ---- 8 to 10
+-- ---- 8 and 9
 
 pub one-or-two : (q : ℕ) → questionRow q ≡ Passed → (q ≡ 1) ⊎ (q ≡ 2)
 unfolding badQuestion
@@ -96,18 +91,14 @@ pub roomy : (w : Window) (room : ℕ) → roomRow w room ≡ Passed → roomOf w
 unfolding noRoom
 roomy w room h = ltb-false room (roomOf w) (when-passed (noRoom w room) refusal.Room h)
 
--- what row 10 may suppose: a good window, and room for its list
-pub before-passed : (w : Window) (q room : ℕ) → first (rowsBeforeSearch w q room) ≡ Passed → Good w × (roomOf w ≤ room)
+-- what row 9 may suppose: a good window of few steps
+pub let-through : (w : Window) (q : ℕ) → first (rowsButRoom w q) ≡ Passed → Good w × (stepsOf w ≤ mostSteps)
 unfolding rowAt
-before-passed w q room h = let p = passed-exactly (rowsBeforeSearch w q room) .0 h in (good w (p 0) (p 1), roomy w room (p 3))
-
--- Kepler's search settles at every instant
-pub kepler-passes : (e : Elements) (w : Window) → keplerRow e w ≡ Passed
-kepler-passes e w = rw (settles-always (orbitWith e) (w .t0))
+let-through w q h = let p = passed-exactly (rowsButRoom w q) .0 h in (good w (p 0) (p 1), few-steps w (p 0) (p 1))
 
 -- ---- numbers
 
-pub number-most : (r : Refusal) → numberOf r ≤ 10
+pub number-most : (r : Refusal) → numberOf r ≤ 9
 number-most refusal.Length = lit≤ tt
 number-most refusal.Word = lit≤ tt
 number-most (refusal.NotFinite k x b) = lit≤ tt
@@ -117,9 +108,8 @@ number-most refusal.Window = lit≤ tt
 number-most refusal.Step = lit≤ tt
 number-most refusal.Question = lit≤ tt
 number-most refusal.Room = lit≤ tt
-number-most refusal.Kepler = lit≤ tt
 
--- of the refusals 1, 2 and 6 to 10 the table says: field 0, number 0.0
+-- of the refusals 1, 2 and 6 to 9 the table says: field 0, number 0.0
 pub else-returns : (r : Refusal) → (numberOf r ≡ 3 → ⊥) → (numberOf r ≡ 4 → ⊥) → (numberOf r ≡ 5 → ⊥) → (fieldOf r ≡ 0) × (valueOf r ≡ zero) × (bitsOf r ≡ 0)
 else-returns refusal.Length three four five = (refl, refl, refl)
 else-returns refusal.Word three four five = (refl, refl, refl)
@@ -130,4 +120,3 @@ else-returns refusal.Window three four five = (refl, refl, refl)
 else-returns refusal.Step three four five = (refl, refl, refl)
 else-returns refusal.Question three four five = (refl, refl, refl)
 else-returns refusal.Room three four five = (refl, refl, refl)
-else-returns refusal.Kepler three four five = (refl, refl, refl)

@@ -8,8 +8,8 @@
 --   Fits, InOrder, listed, Changes                         finder/specs/Fits.antt          recordBytes, parsedOf               interval/specs/Record.antt
 --   has, Says, Why                                         finder/specs/Flags.antt         FirstAsked, LastAsked               finder/specs/Asked.antt
 --   Alike                                                  halving/specs/Halving.antt      sightsIn                            job/specs/Outcome.antt
---   answerAt, sightAt, τBy, τOf                            geometry/specs                  orbitWith                           job/specs/Table.antt
---   seenFrom, turnedBy                                     geometry/specs/Elsewhere.antt
+--   answerAt, sightAt, τBy, τOf                            geometry/specs                  orbitWith                           job/specs/Outcome.antt
+--   seenFrom, turnedBy                                     geometry/specs/Elsewhere.antt   searchOf                            kepler/specs/Kepler.antt
 use Prim.Native.Nat.{ℕ, suc, _+_, _*_, _≤_, _<_}
 use mathlib.Core.Path.{_≡_, refl, sym, ap, subst, fun-ext, _∙_}
 use mathlib.Core.Logic.{_↔_, _⊎_, _≢_}
@@ -27,6 +27,8 @@ use lib.Ieee.Positive.{positive}
 use lib.Ieee.Scale.{finite}
 use Rattle.words.specs.Little.{Bytes}
 use Rattle.halving.specs.Halving.{Alike}
+use Rattle.kepler.specs.Kepler.{searchOf}
+use Rattle.kepler.proofs.Laws as kepler
 use Rattle.refusal.specs.Refusal.{numberOf, fieldOf, zero, valueOf, bitsOf, orderOf}
 use Rattle.refusal.specs.Rows.{rowAt, Gives, Passes}
 use Rattle.refusal.specs.declared.Refusal.{Refusal}
@@ -61,8 +63,8 @@ use Rattle.finder.proofs.Listed.{each-at, list-fits, list-in-order, list-sample
 use Rattle.finder.proofs.Asked.{list-alike}
 use Rattle.finder.proofs.Neighbours.{list-asked, records-alike}
 use Rattle.finder.proofs.Reasons.{Tells, first-why, last-why}
-use Rattle.job.specs.Table.{windowOf, questionOf, orbitWith, tableOf}
-use Rattle.job.specs.Outcome.{intervalsOf, askedOf, answersIn, sightsIn, outcomeOf, listAfter}
+use Rattle.job.specs.Table.{windowOf, questionOf, tableOf}
+use Rattle.job.specs.Outcome.{intervalsOf, askedOf, orbitWith, answersIn, sightsIn, outcomeOf, listAfter}
 use Rattle.job.specs.declared.Outcome.{Outcome}
 use Rattle.job.specs.declared.Outcome.the-variants.{Listed, Refused}
 use Rattle.job.proofs.Exactly as exactly
@@ -88,6 +90,14 @@ by-contract κs a o x p = record { answer = p .0; bytes = p .1 }
 -- and it is required of no call that anything holds before it: any bytes, any room
 pub requires-nothing : (κs : Lfts 2) (a : Dens κs list.ps) → list-reads.Pre κs a
 requires-nothing κs a = tt
+
+-- ---- Kepler's search
+
+-- 32 halvings from 0 and 2^32 end at neighbours, whatever e and M are: so no refusal stands for a search that does not
+pub one-wide : (e M : ℕ) → (searchOf e M .asked ≡ 32) × (searchOf e M .high ≡ searchOf e M .low + 1)
+one-wide = kepler.one-wide
+
+-- ---- One job
 
 -- for the proofs below: what was answered, by the definition; and a window that was let through
 module _ {s old : List ℕ} {o : Outcome} {new : List ℕ} (job : Job s old o new) where
@@ -132,10 +142,6 @@ module _ (s old : List ℕ) (o : Outcome) (new : List ℕ) (job : Job s old o ne
   pub list-or-refusal : (o ≡ Listed (length l) (length (instantsOf f w))) ⊎ ((r : Refusal) × (o ≡ Refused r))
   unfolding foundOf
   list-or-refusal = rw (job .answer) (exactly.list-or-refusal s room)
-
-  -- refusal 10 is never given: Kepler's search always settles
-  pub kepler-never : o ≡ Refused refusal.Kepler → ⊥
-  kepler-never h = exactly.kepler-never s room (told job h)
 
   -- refusal 9 is never given where there is room for 2,049 intervals
   pub room-never : roomForAny ≤ room → o ≡ Refused refusal.Room → ⊥

@@ -11,17 +11,17 @@ use Rattle.refusal.specs.declared.Refusal.the-variants as refusal
 use Rattle.refusal.specs.declared.Verdict.{Verdict}
 use Rattle.refusal.specs.declared.Verdict.the-variants as verdict
 use Rattle.refusal.proofs.Order.{not-both}
-use Rattle.elements.specs.Reading.{elementsOf, fieldRows, recordRows}
+use Rattle.elements.specs.Reading.{fieldRows, recordRows}
 use Rattle.finder.specs.declared.Window.{Window}
 use Rattle.finder.specs.Samples.{mostSteps, stepsOf}
 use Rattle.finder.specs.Records.{roomOf, roomForAny}
-use Rattle.job.specs.Table.{windowOf, questionOf, noRoom, windowRow, stepRow, questionRow, roomRow, rowsBeforeSearch, rowsFromSearch, tableOf}
+use Rattle.job.specs.Table.{windowOf, questionOf, noRoom, roomRow, rowsButRoom, rowsFromWindow, tableOf, tableButRoom}
 use Rattle.job.specs.Outcome.{answersIn, sightsIn, outcomeFrom, recordsFrom, outcomeOf, recordsIn}
 use Rattle.job.specs.Reply.{roomForReply, replyOf}
 use Rattle.job.specs.declared.Outcome.the-variants.{Refused}
-use Rattle.job.proofs.Laws.{both, few-steps}
+use Rattle.job.proofs.Laws.{few-steps, let-through}
 use Rattle.job.proofs.Exactly.{refused-exactly}
-use Rattle.job.proofs.Cases.{before-parts, window-parts, table-parts}
+use Rattle.job.proofs.Cases.{window-parts, table-parts, admit-parts}
 
 -- a window of at most 4,096 steps has room
 pub row-passes : (w : Window) (room : ℕ) → stepsOf w ≤ mostSteps → roomForAny ≤ room → roomRow w room ≡ verdict.Passed
@@ -36,28 +36,23 @@ room-never s room enough h =
     let few = few-steps (windowOf s) (gives .none-before 16 (lit< tt)) (gives .none-before 17 (lit< tt)) in
     not-both (row-passes (windowOf s) room few enough) (gives .applies)
 
--- rows 6 to 9 say the same, since more steps than 4,096 are refused before row 9
-same-before : (w : Window) (q a b : ℕ) → roomForAny ≤ a → roomForAny ≤ b → first (rowsBeforeSearch w q a) ≡ first (rowsBeforeSearch w q b)
+-- rows 6 to 9 are then rows 6 to 8, since more steps than 4,096 are refused before row 9
+any-room : (w : Window) (q room : ℕ) → roomForAny ≤ room → first (rowsFromWindow w q room) ≡ first (rowsButRoom w q)
 unfolding _then_
-same-before w q a b p r = before-parts w q a ∙ by (windowRow w then stepRow w) refl ∙ sym (before-parts w q b)
+any-room w q room enough = window-parts w q room ∙ by (first (rowsButRoom w q)) refl
   where
-    by : (v : Verdict) → (windowRow w then stepRow w) ≡ v → (v then (questionRow q then roomRow w a)) ≡ (v then (questionRow q then roomRow w b))
-    by verdict.Passed h =
-        let two = both (windowRow w) (stepRow w) h in
-        let few = few-steps w (two .0) (two .1) in
-        ap (λ (v : Verdict). questionRow q then v) (row-passes w a few p ∙ sym (row-passes w b few r))
-    by (verdict.Refused x) h = refl
+    by : (v : Verdict) → first (rowsButRoom w q) ≡ v → (v then roomRow w room) ≡ v
+    by verdict.Passed h = row-passes w room (let-through w q h .1) enough
+    by (verdict.Refused r) h = refl
+
+-- and the table says the same as without row 9
+pub roomy-verdict : (s : List ℕ) (room : ℕ) → roomForAny ≤ room → first (tableOf s room) ≡ first (tableButRoom s)
+roomy-verdict s room enough =
+    table-parts s room ∙ ap (λ (v : Verdict). first (recordRows s) then v) (any-room (windowOf s) (questionOf s) room enough) ∙ sym (admit-parts s)
 
 module _ (s : List ℕ) (a b : ℕ) (p : roomForAny ≤ a) (r : roomForAny ≤ b) where
   same-verdict : first (tableOf s a) ≡ first (tableOf s b)
-  same-verdict =
-      let e = elementsOf s in
-      let w = windowOf s in
-      let q = questionOf s in
-      table-parts s a
-      ∙ ap (λ (v : Verdict). first (recordRows s) then v)
-      (window-parts e w q a ∙ ap (λ (v : Verdict). v then first (rowsFromSearch e w)) (same-before w q a b p r) ∙ sym (window-parts e w q b))
-      ∙ sym (table-parts s b)
+  same-verdict = roomy-verdict s a p ∙ sym (roomy-verdict s b r)
 
   same-outcome : outcomeOf s a ≡ outcomeOf s b
   unfolding outcomeOf

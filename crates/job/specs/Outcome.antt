@@ -9,13 +9,16 @@ use Rattle.refusal.specs.declared.Verdict.{Verdict}
 use Rattle.refusal.specs.declared.Verdict.the-variants as verdict
 use Rattle.elements.specs.declared.reading.Elements.{Elements}
 use Rattle.elements.specs.Reading.{elementsOf}
+use Rattle.elements.specs.Rounding.{wholesOf}
+use Rattle.geometry.specs.declared.Orbit.{Orbit}
 use Rattle.geometry.specs.declared.Sight.{Sight}
+use Rattle.geometry.specs.Prepared.{orbitOf}
 use Rattle.geometry.specs.Visible.{answerAt}
 use Rattle.geometry.specs.Sight.{sightAt}
 use Rattle.finder.specs.declared.Window.{Window}
 use Rattle.finder.specs.Spans.{listOf}
 use Rattle.finder.specs.Records.{recordsOf, foundOf}
-use Rattle.job.specs.Table.{windowOf, questionOf, orbitWith, tableOf}
+use Rattle.job.specs.Table.{windowOf, questionOf, tableOf}
 use Rattle.job.specs.declared.Outcome.{Outcome}
 use Rattle.job.specs.declared.Outcome.the-variants.{Listed, Refused}
 
@@ -45,6 +48,10 @@ recordsFrom (verdict.Refused r) f g w = []
 
 -- ---- by the record
 
+-- what is fixed for a job with the elements e
+abbrev pub orbitWith : Elements → Orbit
+orbitWith e = orbitOf (wholesOf e)
+
 -- the yes or no at each instant, to question q about the elements e
 abbrev pub answersOf : Elements → ℕ → ℕ → Bool
 answersOf e q = answerAt (orbitWith e) q
@@ -53,12 +60,12 @@ answersOf e q = answerAt (orbitWith e) q
 abbrev pub sightsOf : Elements → ℕ → ℕ → Sight
 sightsOf e q = sightAt (orbitWith e) q
 
--- the outcome by the first of some rows that applies, and the bytes of its records
-abbrev pub outcomeBy : List Verdict → Elements → ℕ → Window → Outcome
-outcomeBy rows e q w = outcomeFrom (first rows) (answersOf e q) w
+-- the outcome by a verdict, and the bytes of its records
+abbrev pub outcomeBy : Verdict → Elements → ℕ → Window → Outcome
+outcomeBy v e q w = outcomeFrom v (answersOf e q) w
 
-abbrev pub recordsBy : List Verdict → Elements → ℕ → Window → List ℕ
-recordsBy rows e q w = recordsFrom (first rows) (answersOf e q) (sightsOf e q) w
+abbrev pub recordsBy : Verdict → Elements → ℕ → Window → List ℕ
+recordsBy v e q w = recordsFrom v (answersOf e q) (sightsOf e q) w
 
 -- the yes or no to the record's own question about its own elements
 abbrev pub answersIn : List ℕ → ℕ → Bool
@@ -70,11 +77,11 @@ sightsIn s = sightsOf (elementsOf s) (questionOf s)
 
 -- the outcome, with room for so many bytes
 unfoldable pub outcomeOf : List ℕ → ℕ → Outcome
-outcomeOf s room = outcomeBy (tableOf s room) (elementsOf s) (questionOf s) (windowOf s)
+outcomeOf s room = outcomeBy (first (tableOf s room)) (elementsOf s) (questionOf s) (windowOf s)
 
 -- the bytes of its interval records, none for a refusal
 unfoldable pub recordsIn : List ℕ → ℕ → List ℕ
-recordsIn s room = recordsBy (tableOf s room) (elementsOf s) (questionOf s) (windowOf s)
+recordsIn s room = recordsBy (first (tableOf s room)) (elementsOf s) (questionOf s) (windowOf s)
 
 -- the list afterwards: only the interval records are written, from byte 0
 unfoldable pub listAfter : List ℕ → List ℕ → List ℕ

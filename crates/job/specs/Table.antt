@@ -1,20 +1,13 @@
 -- The table of refusals, in order (document 01, "Turned away").
-use Prim.Native.Nat.{ℕ, suc}
+use Prim.Native.Nat.{ℕ}
 use mathlib.Core.Bool.{Bool, not, _&&_, _||_}
 use mathlib.Core.List.{List, [], _∷_, _++_}
 use lib.Dec.{eqb, ltb, leb}
-use lib.ListN.{take, drop}
 use Rattle.words.specs.Little.{readOf}
-use Rattle.refusal.specs.Refusal.{orderOf}
 use Rattle.refusal.specs.Rows.{when}
 use Rattle.refusal.specs.declared.Refusal.the-variants as refusal
 use Rattle.refusal.specs.declared.Verdict.{Verdict}
-use Rattle.elements.specs.declared.reading.Elements.{Elements}
-use Rattle.elements.specs.Reading.{elementsOf, recordRows}
-use Rattle.elements.specs.Rounding.{wholesOf}
-use Rattle.geometry.specs.declared.Orbit.{Orbit}
-use Rattle.geometry.specs.Prepared.{orbitOf}
-use Rattle.geometry.specs.Placed.{settlesAt}
+use Rattle.elements.specs.Reading.{recordRows}
 use Rattle.finder.specs.declared.Window.{Window}
 use Rattle.finder.specs.Samples.{lastEnd, longestStep, mostSteps, stepsOf}
 use Rattle.finder.specs.Records.{roomOf}
@@ -47,7 +40,7 @@ badQuestion q = not (eqb q 1) && not (eqb q 2)
 unfoldable pub noRoom : Window → ℕ → Bool
 noRoom w room = ltb room (roomOf w)
 
--- ---- rows 6 to 10
+-- ---- rows 6 to 9
 
 abbrev pub windowRow : Window → Verdict
 windowRow w = when (badWindow w) refusal.Window
@@ -61,36 +54,20 @@ questionRow q = when (badQuestion q) refusal.Question
 abbrev pub roomRow : Window → ℕ → Verdict
 roomRow w room = when (noRoom w room) refusal.Room
 
--- what is fixed for a job with the elements e
-abbrev pub orbitWith : Elements → Orbit
-orbitWith e = orbitOf (wholesOf e)
-
--- 10: Kepler search wider than one unit after 32 halvings; the width is the same at every instant, so t0 stands for all
-abbrev pub keplerRow : Elements → Window → Verdict
-keplerRow e w = when (not (settlesAt (orbitWith e) (w .t0))) refusal.Kepler
-
 -- ---- the table
 
--- 1 to 10, of a record and a list with room for so many bytes
+-- 6 to 8, of a window and a question
+abbrev pub rowsButRoom : Window → ℕ → List Verdict
+rowsButRoom w q = windowRow w ∷ stepRow w ∷ questionRow q ∷ []
+
+-- 6 to 9, of a list too with room for so many bytes
+abbrev pub rowsFromWindow : Window → ℕ → ℕ → List Verdict
+rowsFromWindow w q room = rowsButRoom w q ++ (roomRow w room ∷ [])
+
+-- 1 to 9, of a record and a list with room for so many bytes
 unfoldable pub tableOf : List ℕ → ℕ → List Verdict
-tableOf s room =
-    let w = windowOf s in
-    recordRows s ++ (windowRow w ∷ stepRow w ∷ questionRow (questionOf s) ∷ roomRow w room ∷ keplerRow (elementsOf s) w ∷ [])
+tableOf s room = recordRows s ++ rowsFromWindow (windowOf s) (questionOf s) room
 
--- every row but 9, which is given only where a list is written (document 02, wish 3); the room, which no other row asks for, is 0
+-- 1 to 8, of a record: every row but 9, which is given only where a list is written (document 02, wish 3)
 unfoldable pub tableButRoom : List ℕ → List Verdict
-tableButRoom s = take (orderOf refusal.Room) (tableOf s 0) ++ drop (suc (orderOf refusal.Room)) (tableOf s 0)
-
--- ---- parts of it, for the contracts of private functions
-
--- 6 to 9
-abbrev pub rowsBeforeSearch : Window → ℕ → ℕ → List Verdict
-rowsBeforeSearch w q room = windowRow w ∷ stepRow w ∷ questionRow q ∷ roomRow w room ∷ []
-
--- 10
-abbrev pub rowsFromSearch : Elements → Window → List Verdict
-rowsFromSearch e w = keplerRow e w ∷ []
-
--- 6 to 10
-abbrev pub rowsFromWindow : Elements → Window → ℕ → ℕ → List Verdict
-rowsFromWindow e w q room = rowsBeforeSearch w q room ++ rowsFromSearch e w
+tableButRoom s = recordRows s ++ rowsButRoom (windowOf s) (questionOf s)

@@ -2,12 +2,11 @@
 ghost use mathlib.Core.Path.{_≡_};
 ghost use lib.ListN.{length};
 ghost use lib.Seq.{sets};
-ghost use Rattle.refusal.specs.Rows.{_then_, first};
+ghost use Rattle.refusal.specs.Rows.{first};
 ghost use Rattle.elements.specs.Accepted.{Accepted};
 ghost use Rattle.elements.specs.Reading.{WholeRecord};
 ghost use Rattle.finder.specs.Samples.{Good};
-ghost use Rattle.finder.specs.Records.{HasRoom};
-ghost use Rattle.job.specs.Table.{windowOf, badWindow, badStep, badQuestion, noRoom, windowRow, stepRow, questionRow, roomRow, rowsBeforeSearch, rowsFromSearch, rowsFromWindow};
+ghost use Rattle.job.specs.Table.{windowOf, badWindow, badStep, badQuestion, noRoom, roomRow, rowsButRoom, rowsFromWindow};
 ghost use Rattle.job.specs.Outcome.{intervalsOf, outcomeBy, recordsBy, outcomeOf, listAfter};
 ghost use Rattle.job.specs.Reply.{jobOf, closingOf, replyOf};
 ghost use Rattle.job.specs.Admission.{admissionFrom, admissionOf};
@@ -53,7 +52,7 @@ fn window(s: &[u8]) -> Window
     }
 }
 
-// ---- refusals 6 and 7
+// ---- refusals 6 to 8
 
 // t0 ≥ t1, or t1 past the last end of a window.
 fn bad_window(w: Window) -> bool
@@ -78,22 +77,23 @@ fn bad_step(w: Window) -> bool
     MOST_STEPS * w.step < w.t1 - w.t0
 }
 
-// Rows 6 and 7.
-fn window_and_step(w: Window) -> Verdict
-    ensures { λ v. ⌜ v ≡ (windowRow w then stepRow w) ⌝ }
-{
-    let v = row(bad_window(w), Refusal::Window);
-    then(v, row(bad_step(w), Refusal::Step))
-}
-
-// ---- refusals 8 and 9
-
 // Neither 1 nor 2.
 fn bad_question(question: u32) -> bool
     ensures { λ r. ⌜ r ≡ badQuestion question ⌝ }
 {
     question != 1 && question != 2
 }
+
+// Rows 6 to 8.
+fn window_to_question(w: Window, question: u32) -> Verdict
+    ensures { λ v. ⌜ v ≡ first (rowsButRoom w question) ⌝ }
+{
+    let v = row(bad_window(w), Refusal::Window);
+    let v = then(v, row(bad_step(w), Refusal::Step));
+    then(v, row(bad_question(question), Refusal::Question))
+}
+
+// ---- refusal 9, and the list
 
 // Less than 24·ceil((n+1)/2) bytes, n steps.
 fn no_room(w: Window, room: usize) -> bool
@@ -103,39 +103,17 @@ fn no_room(w: Window, room: usize) -> bool
     (room as u64) < 24 * ((finder::steps(w) + 2) / 2)
 }
 
-// Rows 8 and 9.
-fn question_and_room(w: Window, question: u32, room: usize) -> Verdict
-    requires { ⌜ Good w ⌝ }
-    ensures { λ v. ⌜ v ≡ (questionRow question then roomRow w room) ⌝ }
+// Row 9, and then the list. The sine table is made here, once, and lent to all that reads it; so a refused job makes none.
+fn from_room(e: Elements, question: u32, w: Window, list: &mut [u8]) -> Outcome
+    requires { ⌜ (Accepted e) × (Good w) ⌝ }
+    ensures { λ r. ⌜ r ≡ outcomeBy (roomRow w (length (now (list .entry)))) e question w ⌝ }
+    ensures { λ _. ⌜ now (list .exit) ≡ sets (now (list .entry)) 0 (recordsBy (roomRow w (length (now (list .entry)))) e question w) ⌝ }
 {
-    let v = row(bad_question(question), Refusal::Question);
-    then(v, row(no_room(w, room), Refusal::Room))
-}
-
-// Rows 6 to 9. Room is asked only of a window and a step that are let through.
-fn before_search(w: Window, question: u32, room: usize) -> Verdict
-    ensures { λ v. ⌜ v ≡ first (rowsBeforeSearch w question room) ⌝ }
-{
-    let v = window_and_step(w);
-    match v {
-        Verdict::Refused(_) => v,
-        Verdict::Passed => question_and_room(w, question, room),
+    if no_room(w, list.len()) {
+        return Outcome::Refused(Refusal::Room);
     }
-}
-
-// ---- the job
-
-// Row 10, and then the list. The sine table is made here, once, and lent to all that reads it; so a job that an earlier row refuses makes none.
-fn from_search(e: Elements, question: u32, w: Window, list: &mut [u8]) -> Outcome
-    requires { ⌜ (Accepted e) × (Good w) × (HasRoom w (now list)) ⌝ }
-    ensures { λ r. ⌜ r ≡ outcomeBy (rowsFromSearch e w) e question w ⌝ }
-    ensures { λ _. ⌜ now (list .exit) ≡ sets (now (list .entry)) 0 (recordsBy (rowsFromSearch e w) e question w) ⌝ }
-{
     let t = sine::table();
     let o = geometry::prepare(&t, elements::rounding::rounded(e));
-    if !geometry::settles(&t, o, w.t0) {
-        return Outcome::Refused(Refusal::Kepler);
-    }
     let f = finder::list(&t, o, question, w, list);
     Outcome::Listed {
         intervals: f.intervals,
@@ -143,15 +121,15 @@ fn from_search(e: Elements, question: u32, w: Window, list: &mut [u8]) -> Outcom
     }
 }
 
-// Rows 6 to 10, and then the list.
+// Rows 6 to 9, and then the list. Room is asked only of a window and a step that are let through.
 fn from_window(e: Elements, question: u32, w: Window, list: &mut [u8]) -> Outcome
     requires { ⌜ Accepted e ⌝ }
-    ensures { λ r. ⌜ r ≡ outcomeBy (rowsFromWindow e w question (length (now (list .entry)))) e question w ⌝ }
-    ensures { λ _. ⌜ now (list .exit) ≡ sets (now (list .entry)) 0 (recordsBy (rowsFromWindow e w question (length (now (list .entry)))) e question w) ⌝ }
+    ensures { λ r. ⌜ r ≡ outcomeBy (first (rowsFromWindow w question (length (now (list .entry))))) e question w ⌝ }
+    ensures { λ _. ⌜ now (list .exit) ≡ sets (now (list .entry)) 0 (recordsBy (first (rowsFromWindow w question (length (now (list .entry))))) e question w) ⌝ }
 {
-    match before_search(w, question, list.len()) {
+    match window_to_question(w, question) {
         Verdict::Refused(r) => Outcome::Refused(r),
-        Verdict::Passed => from_search(e, question, w, list),
+        Verdict::Passed => from_room(e, question, w, list),
     }
 }
 
@@ -168,12 +146,11 @@ pub fn list(s: &[u8], list: &mut [u8]) -> Outcome
 
 // ---- whether a record is accepted
 
-// Rows 6 to 8, and the window. Nothing is asked for row 10: Kepler's search always settles.
+// Rows 6 to 8, and the window.
 fn admit_window(w: Window, question: u32) -> Admission
-    ensures { λ r. ⌜ r ≡ admissionFrom (windowRow w then stepRow w then questionRow question) w ⌝ }
+    ensures { λ r. ⌜ r ≡ admissionFrom (first (rowsButRoom w question)) w ⌝ }
 {
-    let v = window_and_step(w);
-    match then(v, row(bad_question(question), Refusal::Question)) {
+    match window_to_question(w, question) {
         Verdict::Refused(r) => Admission::TurnedAway(r),
         Verdict::Passed => Admission::Admitted(w),
     }

@@ -8,7 +8,7 @@ use lib.Dec.{T, lit≤, lit<, leb·zero, lt→ltb, nleb→lt}
 use lib.IntN.{ℤ, pos, negsuc, +ℤ-idr}
 use lib.Signed.{leZ, ltZ, _≤ℤ_, _<ℤ_, leZ-yes, ltZ-yes}
 use borrow.Author.Tests.{lt-leb}
-use Rattle.halving.proofs.Laws.{Ends, Differ, ends, differ}
+use Rattle.halving.proofs.Laws.{Differ, ends, exactly, differ}
 use Rattle.fixed.proofs.Within.{scaled-zero, zero-scaled}
 use Rattle.nearest.specs.Nearest.{nearest}
 use Rattle.angle.specs.Turn.{turn}
@@ -41,18 +41,15 @@ K-whole e E h = rw (h, sine-0, scaled-zero, zero-scaled) (+ℤ-idr (pos E))
 
 -- ---- where the search ends
 
-search-ends : (e M : ℕ) → Ends 0 turn (searchOf e M)
+-- 32 halvings from 0 and 2^32 end at neighbours, whatever e and M are (document 02, wish 6)
+pub one-wide : (e M : ℕ) → (searchOf e M .asked ≡ 32) × (searchOf e M .high ≡ searchOf e M .low + 1)
 unfolding searchOf
-search-ends e M = ends (reached e M) 32 0 turn 0 (lit< tt) (lit≤ tt)
-
--- the final width is one, whatever e and M are: so refusal 10 never applies
-pub one-wide : (e M : ℕ) → searchOf e M .high ≡ searchOf e M .low + 1
-one-wide e M = search-ends e M .neighbours
+one-wide e M = exactly (reached e M) 32 0 0
 
 -- E is less than a turn
 pub kepler-lt : (e M : ℕ) → keplerOf e M < turn
-unfolding keplerOf
-kepler-lt e M = omega (arith, search-ends e M)
+unfolding keplerOf searchOf
+kepler-lt e M = omega (arith, ends (reached e M) 32 0 turn 0 (lit< tt) (lit≤ tt))
 
 -- ---- K(E) ≤ M < K(E + 1), for M less than a turn
 
@@ -83,5 +80,5 @@ unfolding reached keplerOf
 kepler-solves e M h =
     record {
       reached-here = passed _ _ (search-differs e M h .low-moves);
-      not-beyond = subst (λ (E : ℕ). pos M <ℤ K e E) (one-wide e M) (failed _ _ (search-differs e M h .high-stays));
+      not-beyond = subst (λ (E : ℕ). pos M <ℤ K e E) (one-wide e M .1) (failed _ _ (search-differs e M h .high-stays));
     }

@@ -42,7 +42,7 @@ mostMean = turn + one
 unfoldable pub reached : ℕ → ℕ → ℕ → Bool
 reached e M E = leZ (K e E) (pos M)
 
--- the search: low 0, high 2^32, low moves to the middle if K(middle) ≤ M, else high does; at most 32 halvings (document 01, refusal 10)
+-- the search: low 0, high 2^32, low moves to the middle if K(middle) ≤ M, else high does; until they are neighbours, as they are after 32 halvings (`one-wide` in proofs/Laws.antt)
 unfoldable pub searchOf : ℕ → ℕ → Edge
 searchOf e M = halve (reached e M) 32 0 turn 0
 

@@ -3,7 +3,7 @@
 ghost use mathlib.Core.Path.{_≡_};
 ghost use Rattle.fixed.specs.Within.{Is};
 ghost use Rattle.sine.specs.Sine.{sines};
-ghost use Rattle.kepler.specs.Kepler.{Period, phaseOf, Eccentricity, UpToATurn, K, mostMean, reached, searchOf, keplerOf};
+ghost use Rattle.kepler.specs.Kepler.{Period, phaseOf, Eccentricity, UpToATurn, K, mostMean, reached, keplerOf};
 use angle::Angle;
 
 const TURN: u64 = 4_294_967_296;
@@ -39,31 +39,21 @@ fn reaches(t: &[u32], e: u32, m: Angle, anomaly: u64) -> bool
     mean(t, e, anomaly) <= m.units as i64
 }
 
-// Where the search of E ends, and how many middles it asked.
-pub fn search(t: &[u32], e: u32, m: Angle) -> halving::Edge
+// The eccentric anomaly E, searched from 0 and a turn until they are neighbours: the low end.
+pub fn eccentric(t: &[u32], e: u32, m: Angle) -> Angle
     requires { ⌜ (now t ≡ sines) × (Eccentricity e) ⌝ }
-    ensures { λ r. ⌜ r ≡ searchOf e (m .units) ⌝ }
+    ensures { λ r. ⌜ r .units ≡ keplerOf e (m .units) ⌝ }
 {
     let mut low: u64 = 0;
     let mut high: u64 = TURN;
-    let mut asked: u64 = 0;
     while low + 1 < high {
         let middle = (low + high) / 2;
-        asked += 1;
         if reaches(t, e, m, middle) {
             low = middle;
         } else {
             high = middle;
         }
     }
-    halving::Edge { low, high, asked }
-}
-
-// The eccentric anomaly E, the low end of the search.
-pub fn eccentric(t: &[u32], e: u32, m: Angle) -> Angle
-    requires { ⌜ (now t ≡ sines) × (Eccentricity e) ⌝ }
-    ensures { λ r. ⌜ r .units ≡ keplerOf e (m .units) ⌝ }
-{
-    let units = search(t, e, m).low as u32;
+    let units = low as u32;
     Angle { units }
 }

@@ -2,9 +2,9 @@
 use Prim.Native.Nat.{ℕ, _+_}
 use lib.Ieee.{Float, binary64, ofBits, toBits}
 use Rattle.refusal.specs.declared.Refusal.{Refusal}
-use Rattle.refusal.specs.declared.Refusal.the-variants.{Length, Word, NotFinite, OutOfRange, TooClose, Window, Step, Question, Room, Kepler}
+use Rattle.refusal.specs.declared.Refusal.the-variants.{Length, Word, NotFinite, OutOfRange, TooClose, Window, Step, Question, Room}
 
--- the table's number
+-- the table's number. 10 was a search of Kepler's that did not end; it is not used again (document 02, wish 6)
 abbrev pub numberOf : Refusal → ℕ
 numberOf Length = 1
 numberOf Word = 2
@@ -15,7 +15,6 @@ numberOf Window = 6
 numberOf Step = 7
 numberOf Question = 8
 numberOf Room = 9
-numberOf Kepler = 10
 
 -- field k that offends, or 0
 abbrev pub fieldOf : Refusal → ℕ
@@ -28,7 +27,6 @@ fieldOf Window = 0
 fieldOf Step = 0
 fieldOf Question = 0
 fieldOf Room = 0
-fieldOf Kepler = 0
 
 -- 0.0
 abbrev pub zero : Float
@@ -45,7 +43,6 @@ valueOf Window = zero
 valueOf Step = zero
 valueOf Question = zero
 valueOf Room = zero
-valueOf Kepler = zero
 
 -- its bits; for a field that is NaN or infinite they are the record's own, which tell one NaN from another
 abbrev pub bitsOf : Refusal → ℕ
@@ -58,7 +55,6 @@ bitsOf Window = 0
 bitsOf Step = 0
 bitsOf Question = 0
 bitsOf Room = 0
-bitsOf Kepler = 0
 
 -- how many rows are tried before the refusal's own: in the table's order, but 3 and 4 together, the thirteen fields in number order
 abbrev pub orderOf : Refusal → ℕ
@@ -71,4 +67,3 @@ orderOf Window = 16
 orderOf Step = 17
 orderOf Question = 18
 orderOf Room = 19
-orderOf Kepler = 20

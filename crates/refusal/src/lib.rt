@@ -15,7 +15,6 @@ pub enum Refusal {
     Step,
     Question,
     Room,
-    Kepler,
 }
 
 // What one row says.
@@ -53,7 +52,6 @@ pub fn number(r: Refusal) -> u32
         Refusal::Step => 7,
         Refusal::Question => 8,
         Refusal::Room => 9,
-        Refusal::Kepler => 10,
     }
 }
 
@@ -75,7 +73,6 @@ pub fn field(r: Refusal) -> u32
         Refusal::Step => 0,
         Refusal::Question => 0,
         Refusal::Room => 0,
-        Refusal::Kepler => 0,
     }
 }
 
@@ -97,7 +94,6 @@ pub fn value(r: Refusal) -> f64
         Refusal::Step => 0.0,
         Refusal::Question => 0.0,
         Refusal::Room => 0.0,
-        Refusal::Kepler => 0.0,
     }
 }
 
@@ -119,7 +115,6 @@ pub fn bits(r: Refusal) -> u64
         Refusal::Step => 0,
         Refusal::Question => 0,
         Refusal::Room => 0,
-        Refusal::Kepler => 0,
     }
 }
 

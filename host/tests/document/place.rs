@@ -45,8 +45,7 @@ fn kepler_search_brackets_m() {
             },
         };
         let M = random.below(1 << 32) as i64;
-        let (E, next) = kepler.search(M);
-        assert_eq!(next, E + 1);
+        let E = kepler.search(M);
         assert!(kepler.K(E) <= M && M < kepler.K(E + 1));
     }
 }
@@ -78,7 +77,6 @@ fn places_of_an_even_ellipse() {
     assert_eq!(place.at(3_600_000), (-15_000_000, 0));
     assert_eq!(place.at(7_200_000), (5_000_000, 0));
     assert_eq!(place.M(1_800_000), 1 << 30);
-    assert_eq!(place.width(1_234_567), 1);
 }
 
 #[test]

@@ -247,7 +247,7 @@ fn every_corner_of_the_ranges() {
 #[test]
 fn any_bytes_are_answered() {
     let mut random = Random::of("any_bytes_are_answered");
-    let mut refusals = [0; 11];
+    let mut refusals = [0; 10];
     for round in 0..4000 {
         let mut record = random.job().encode();
         for _ in 0..random.below(4) {

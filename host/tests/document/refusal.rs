@@ -1,9 +1,7 @@
 //! Document 01, Turned away: each row, and their order.
 
 use crate::helpers::*;
-use host::place::Place;
 use host::record::{Job, ORBIT};
-use host::whole::Whole;
 use host::Answer;
 
 /// Job 7 with field k (from 1) set to x, asked for either question.
@@ -147,17 +145,6 @@ fn refusal_8_question() {
     for question in [0, 3, 0x0100_0001, u32::MAX] {
         let job = Job { question, ..job7() };
         assert_eq!(run(&job).0, Answer::refused(8, 0, 0));
-    }
-}
-
-#[test]
-fn refusal_10_never_arises_from_a_whole_turn() {
-    let mut random = Random::of("refusal_10_never_arises_from_a_whole_turn");
-    for _ in 0..300 {
-        let job = random.job();
-        let place = Place::of(&Whole::of(&job.fields));
-        assert_eq!(place.width(job.t0), 1);
-        assert_eq!(run(&job).0.refusal, 0);
     }
 }
 

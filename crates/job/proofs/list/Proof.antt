@@ -1,4 +1,4 @@
--- `job::list` meets its contract: rows 1 to 5 stop it, or hand on to rows 6 to 10.
+-- `job::list` meets its contract: rows 1 to 5 stop it, or hand on to rows 6 to 9.
 use mathlib.Core.Path.{_≡_, sym, _∙_}
 use native.Mathlib.Omega.{arith}
 use denote.Ref.{now}

@@ -1,27 +1,74 @@
--- `kepler::eccentric` meets its contract: the low end of the search, which is below a turn.
-use mathlib.Core.Path.{_≡_, ap}
+-- `kepler::eccentric` meets its contract. The loop's invariant: what is left of the halvings ends where the search does.
+use Prim.Native.Nat.{ℕ, _-_, _≤_, _<_}
+use mathlib.Core.Path.{ap, sym, _∙_}
 use native.Mathlib.Omega.{arith}
+use lib.Dec.{lit≤}
 use borrow.Author.Needs.{needs}
 use Rattle.halving.specs.declared.Edge.{Edge}
-use Rattle.kepler.specs.Kepler.{keplerOf}
-use Rattle.kepler.proofs.Laws.{kepler-lt}
+use Rattle.halving.proofs.Loop.{Looking, look-start, look-done, look-up, look-down}
+use Rattle.angle.specs.Turn.{turn}
+use Rattle.kepler.specs.Kepler.{reached, searchOf, keplerOf}
 use Rattle.kepler.proofs.eccentric.Statement.{statement}
 use Rattle.kepler.proofs.eccentric.Tie as tie
 
-low-end : (c : tie.After-search) → let s = c .before .before in c .search .result .low ≡ keplerOf (s .args .e) (s .args .m .units)
+abbrev Inv-loop : tie.InvT-loop
+Inv-loop t e m low₀ high₀ low high =
+    (low < high) × (high ≤ turn) × ((asked : ℕ) × Looking (reached e (m .units)) 32 (searchOf e (m .units)) low high asked)
+
+abbrev μ-loop : tie.MeasureT-loop
+μ-loop t e m low₀ high₀ low high = high - low
+
+loop-holds : tie.Need-loop-holds Inv-loop μ-loop
+unfolding searchOf
+loop-holds c = (omega arith, omega arith, (0, look-start _ 32 0 turn (lit≤ tt)))
+
+add-loop : tie.Need-add-loop Inv-loop μ-loop
+add-loop c = search needs
+
+add-middle : tie.Need-add-middle Inv-loop μ-loop
+add-middle c = search needs
+
+reaches-requires : tie.Need-reaches-requires Inv-loop μ-loop
+reaches-requires c κs = search needs
+
+loop-less : tie.Need-loop-less Inv-loop μ-loop
+loop-less c = omega arith
+
+loop-again : tie.Need-loop-again Inv-loop μ-loop
+loop-again c =
+    let here = c .before .before in
+    let inv = here .before .loop .inv in
+    (omega arith, inv .1, (_, look-up _ (inv .2 .1) (here .loop-test .taken) (sym (c .before .reaches .ensures) ∙ c .if1 .taken)))
+
+loop-less-2 : tie.Need-loop-less-2 Inv-loop μ-loop
+loop-less-2 c = omega arith
+
+loop-again-2 : tie.Need-loop-again-2 Inv-loop μ-loop
+loop-again-2 c =
+    let here = c .before .before in
+    let inv = here .before .loop .inv in
+    (omega arith, omega arith, (_, look-down _ (inv .2 .1) (here .loop-test .taken) (sym (c .before .reaches .ensures) ∙ c .if1 .left)))
+
+cast-units : tie.Need-cast-units Inv-loop μ-loop
+cast-units c = search needs
+
+returns : tie.Need-returns Inv-loop μ-loop
 unfolding keplerOf
-low-end c = ap (λ (b : Edge). b .low) (c .search .ensures)
-
-search-requires : tie.Need-search-requires
-search-requires c κs = search needs
-
-cast-units : tie.Need-cast-units
-cast-units c =
-    let s = c .before .before .before in
-    omega (arith, low-end (c .before), kepler-lt (s .args .e) (s .args .m .units))
-
-returns : tie.Need-returns
-returns c = low-end (c .before)
+returns c = ap (λ (b : Edge). b .low) (look-done _ (c .before .loop .inv .2 .1) (omega arith))
 
 pub eccentric-spec : {M : Type 1} → statement M
-eccentric-spec = tie.close (tie.spec search-requires cast-units returns)
+eccentric-spec =
+    tie.close
+    (tie.spec
+    Inv-loop
+    μ-loop
+    loop-holds
+    add-loop
+    add-middle
+    reaches-requires
+    loop-less
+    loop-again
+    loop-less-2
+    loop-again-2
+    cast-units
+    returns)

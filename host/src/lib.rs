@@ -1,7 +1,7 @@
 //! Document 01 once more, in plain Rust: an implementation written from the
 //! document, and from six readings of it (docs/DECISIONS.md, entry 68), with no
 //! sight of the crates, to be set against the proved one; with document 02's
-//! wishes 1 to 3, written likewise; `root` is an exception, and says so. Modules
+//! wishes 1 to 3, 5 and 6, written likewise; `root` is an exception, and says so. Modules
 //! by document 01's headings; a comment at each rule names its place.
 
 // The document's letters are kept: E (an anomaly) is not e (the eccentricity).

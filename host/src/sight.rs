@@ -28,7 +28,7 @@ fn square(x: i64) -> i128 {
 /// What is fixed during a job for the question hidden.
 #[derive(Clone, Copy)]
 pub struct Shadow {
-    pub place: Place,
+    place: Place,
     Ep: i64,
     Eq: i64,
     /// R²

@@ -42,7 +42,7 @@ fn closings(output: &[u8]) -> Vec<Interval> {
 }
 
 #[test]
-fn every_vector_after_wish_5() {
+fn every_vector_after_wish_6() {
     hold("after-wish-6", |written, expected| written == expected);
 }
 

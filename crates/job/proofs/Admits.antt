@@ -1,4 +1,4 @@
--- A record without a list: rows 1 to 8, which are what the table says with room for any list.
+-- A record without a list: rows 1 to 8 turn it away or let it in, as the table does its job with room for any list.
 use Prim.Native.Nat.{ℕ}
 use mathlib.Core.Path.{_≡_, refl, sym, ap, _∙_}
 use mathlib.Core.Logic.{_↔_}
@@ -18,7 +18,7 @@ use Rattle.elements.proofs.Exactly.{read-exactly, refused-exactly}
 use Rattle.finder.specs.declared.Window.{Window}
 use Rattle.finder.specs.Samples.{Good}
 use Rattle.finder.specs.Records.{roomForAny}
-use Rattle.job.specs.Table.{windowOf, questionOf, roomRow, rowsButRoom, rowsFromWindow, tableButRoom}
+use Rattle.job.specs.Table.{windowOf, questionOf, roomRow, rowsToQuestion, rowsFromWindow, tableButRoom}
 use Rattle.job.specs.Outcome.{outcomeOf}
 use Rattle.job.specs.Admission.{admissionFrom, admissionOf}
 use Rattle.job.specs.declared.Admission.{Admission}
@@ -38,7 +38,7 @@ module _ (s : List ℕ) where
       let gives = first-exactly (recordRows s) (ordered s) r .1 (refused-exactly s r .0 h) in
       rw (stops _ _ _ (admit-parts s) r gives)
 
-  pub was-read : (e : Elements) (a : Admission) → readingOf s ≡ reading.Read e → a ≡ admissionFrom (first (rowsButRoom (windowOf s) (questionOf s))) (windowOf s) → a ≡ admissionOf s
+  pub was-read : (e : Elements) (a : Admission) → readingOf s ≡ reading.Read e → a ≡ admissionFrom (first (rowsToQuestion (windowOf s) (questionOf s))) (windowOf s) → a ≡ admissionOf s
   unfolding admissionOf
   was-read e a h told =
       let passed = passed-exactly (recordRows s) .1 (read-exactly s e .0 h .0) in
@@ -91,7 +91,7 @@ module _ (s : List ℕ) where
       let w = windowOf s in
       let q = questionOf s in
       let parts = both (first (recordRows s)) (first (rowsFromWindow w q room)) (sym (table-parts s room) ∙ listed-first s room n k h) in
-      let rows = both (first (rowsButRoom w q)) (roomRow w room) (sym (window-parts w q room) ∙ parts .1) in
+      let rows = both (first (rowsToQuestion w q)) (roomRow w room) (sym (window-parts w q room) ∙ parts .1) in
       rw (admit-parts s, parts .0, rows .0) refl
 
   -- a record is turned away exactly as its job is refused with room for any list

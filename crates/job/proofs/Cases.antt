@@ -1,15 +1,15 @@
 -- The job's cases, each from what its parts answered: a refusal stops, and a pass hands on to the rows behind it.
 use Prim.Native.Nat.{ℕ}
-use mathlib.Core.Path.{_≡_, refl, ap, _∙_}
+use mathlib.Core.Path.{_≡_, refl}
 use mathlib.Core.Bool.{Bool}
-use mathlib.Core.List.{List, [], _∷_}
+use mathlib.Core.List.{List}
 use lib.ListN.{length}
 use lib.Seq.{sets}
 use Rattle.refusal.specs.Rows.{_then_, first}
 use Rattle.refusal.specs.declared.Refusal.{Refusal}
 use Rattle.refusal.specs.declared.Verdict.{Verdict}
 use Rattle.refusal.specs.declared.Verdict.the-variants as verdict
-use Rattle.refusal.proofs.Order.{first-append, then-passed, stops, goes, first-exactly, passed-exactly}
+use Rattle.refusal.proofs.Order.{first-append, first-last, stops, goes, first-exactly, passed-exactly}
 use Rattle.elements.specs.Reading.{recordRows, readingOf}
 use Rattle.elements.specs.declared.reading.Elements.{Elements}
 use Rattle.elements.specs.declared.reading.Reading.the-variants as reading
@@ -20,7 +20,7 @@ use Rattle.finder.specs.declared.Window.{Window}
 use Rattle.finder.specs.declared.Found.{Found}
 use Rattle.finder.specs.Spans.{listOf}
 use Rattle.finder.specs.Records.{recordsOf, foundOf}
-use Rattle.job.specs.Table.{windowOf, questionOf, roomRow, rowsButRoom, rowsFromWindow, tableOf, tableButRoom}
+use Rattle.job.specs.Table.{windowOf, questionOf, roomRow, rowsToQuestion, rowsFromWindow, tableOf, tableButRoom}
 use Rattle.job.specs.Outcome.{answersOf, sightsOf, answersIn, sightsIn, outcomeFrom, recordsFrom, outcomeOf, recordsIn, listAfter}
 use Rattle.job.specs.declared.Outcome.{Outcome}
 use Rattle.job.specs.declared.Outcome.the-variants.{Listed, Refused}
@@ -43,9 +43,8 @@ module _ (f : ℕ → Bool) (g : ℕ → Sight) (w : Window) (old : List ℕ) wh
 -- ---- a table in two parts
 
 -- 6 to 8, then 9
-pub window-parts : (w : Window) (q room : ℕ) → first (rowsFromWindow w q room) ≡ (first (rowsButRoom w q) then roomRow w room)
-unfolding first
-window-parts w q room = first-append (rowsButRoom w q) (roomRow w room ∷ []) ∙ ap (λ (v : Verdict). first (rowsButRoom w q) then v) (then-passed (roomRow w room))
+pub window-parts : (w : Window) (q room : ℕ) → first (rowsFromWindow w q room) ≡ (first (rowsToQuestion w q) then roomRow w room)
+window-parts w q room = first-last (rowsToQuestion w q) (roomRow w room)
 
 -- 1 to 5, then 6 to 9
 pub table-parts : (s : List ℕ) (room : ℕ) → first (tableOf s room) ≡ (first (recordRows s) then first (rowsFromWindow (windowOf s) (questionOf s) room))
@@ -53,9 +52,9 @@ unfolding tableOf
 table-parts s room = first-append (recordRows s) (rowsFromWindow (windowOf s) (questionOf s) room)
 
 -- 1 to 5, then 6 to 8
-pub admit-parts : (s : List ℕ) → first (tableButRoom s) ≡ (first (recordRows s) then first (rowsButRoom (windowOf s) (questionOf s)))
+pub admit-parts : (s : List ℕ) → first (tableButRoom s) ≡ (first (recordRows s) then first (rowsToQuestion (windowOf s) (questionOf s)))
 unfolding tableButRoom
-admit-parts s = first-append (recordRows s) (rowsButRoom (windowOf s) (questionOf s))
+admit-parts s = first-append (recordRows s) (rowsToQuestion (windowOf s) (questionOf s))
 
 -- ---- the whole job
 

@@ -18,7 +18,7 @@ use Rattle.refusal.proofs.Order.{then-passed, when-passed, passed-exactly}
 use Rattle.finder.specs.declared.Window.{Window}
 use Rattle.finder.specs.Samples.{lastEnd, longestStep, mostSteps, Good, stepsOf}
 use Rattle.finder.specs.Records.{roomOf}
-use Rattle.job.specs.Table.{badWindow, badStep, badQuestion, noRoom, windowRow, stepRow, questionRow, roomRow, rowsButRoom}
+use Rattle.job.specs.Table.{badWindow, badStep, badQuestion, noRoom, windowRow, stepRow, questionRow, roomRow, rowsToQuestion}
 
 neither : (a b : Bool) → (a || b) ≡ false → (a ≡ false) × (b ≡ false)
 neither true b h = (h, absurd (true≢false h))
@@ -76,6 +76,13 @@ module _ (w : Window) (h6 : windowRow w ≡ Passed) (h7 : stepRow w ≡ Passed) 
   pub few-steps : stepsOf w ≤ mostSteps
   few-steps = ltb-false mostSteps (stepsOf w) (step-tests .1)
 
+-- ---- 6 to 8 together
+
+-- leave a good window of at most 4,096 steps
+pub let-through : (w : Window) (q : ℕ) → first (rowsToQuestion w q) ≡ Passed → Good w × (stepsOf w ≤ mostSteps)
+unfolding rowAt
+let-through w q h = let p = passed-exactly (rowsToQuestion w q) .0 h in (good w (p 0) (p 1), few-steps w (p 0) (p 1))
+
 -- ---- 8 and 9
 
 pub one-or-two : (q : ℕ) → questionRow q ≡ Passed → (q ≡ 1) ⊎ (q ≡ 2)
@@ -90,11 +97,6 @@ one-or-two q h = by (eqb q 1) (eqb q 2) refl refl (when-passed (badQuestion q) r
 pub roomy : (w : Window) (room : ℕ) → roomRow w room ≡ Passed → roomOf w ≤ room
 unfolding noRoom
 roomy w room h = ltb-false room (roomOf w) (when-passed (noRoom w room) refusal.Room h)
-
--- what row 9 may suppose: a good window of few steps
-pub let-through : (w : Window) (q : ℕ) → first (rowsButRoom w q) ≡ Passed → Good w × (stepsOf w ≤ mostSteps)
-unfolding rowAt
-let-through w q h = let p = passed-exactly (rowsButRoom w q) .0 h in (good w (p 0) (p 1), few-steps w (p 0) (p 1))
 
 -- ---- numbers
 

@@ -1,4 +1,4 @@
--- What is promised of one job: each part a theorem about the contract of `job::list`, for every record's bytes and every lent list.
+-- What is promised of one job: theorems about the contract of `job::list`, for every record's bytes and every lent list, and one about Kepler's search.
 -- docs/PROMISES.md leads here. The proofs are a line or two each: they cite the laws that show them. The statements' words stand in
 --   outcomeOf, listAfter, intervalsOf, askedOf, answersIn   job/specs/Outcome.antt          tableOf, windowOf, questionOf       job/specs/Table.antt
 --   Gives, Passes, rowAt                                   refusal/specs/Rows.antt         numberOf, fieldOf, valueOf, bitsOf  refusal/specs/Refusal.antt
@@ -7,9 +7,9 @@
 --   instantsOf, changesOf                                  finder/specs/Asked.antt         recordsOf, intervalOf, roomForAny   finder/specs/Records.antt
 --   Fits, InOrder, listed, Changes                         finder/specs/Fits.antt          recordBytes, parsedOf               interval/specs/Record.antt
 --   has, Says, Why                                         finder/specs/Flags.antt         FirstAsked, LastAsked               finder/specs/Asked.antt
---   Alike                                                  halving/specs/Halving.antt      sightsIn                            job/specs/Outcome.antt
---   answerAt, sightAt, τBy, τOf                            geometry/specs                  orbitWith                           job/specs/Outcome.antt
---   seenFrom, turnedBy                                     geometry/specs/Elsewhere.antt   searchOf                            kepler/specs/Kepler.antt
+--   Alike                                                  halving/specs/Halving.antt      sightsIn, orbitWith                 job/specs/Outcome.antt
+--   answerAt, sightAt, τBy, τOf                            geometry/specs                  searchOf                            kepler/specs/Kepler.antt
+--   seenFrom, turnedBy                                     geometry/specs/Elsewhere.antt
 use Prim.Native.Nat.{ℕ, suc, _+_, _*_, _≤_, _<_}
 use mathlib.Core.Path.{_≡_, refl, sym, ap, subst, fun-ext, _∙_}
 use mathlib.Core.Logic.{_↔_, _⊎_, _≢_}
@@ -93,7 +93,7 @@ requires-nothing κs a = tt
 
 -- ---- Kepler's search
 
--- 32 halvings from 0 and 2^32 end at neighbours, whatever e and M are: so no refusal stands for a search that does not
+-- 32 halvings from 0 and 2^32 end at neighbours, whatever e and M are: so there is no refusal for a search that ends otherwise
 pub one-wide : (e M : ℕ) → (searchOf e M .asked ≡ 32) × (searchOf e M .high ≡ searchOf e M .low + 1)
 one-wide = kepler.one-wide
 

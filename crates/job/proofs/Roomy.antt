@@ -1,4 +1,4 @@
--- Room for 2,049 intervals is enough for any job: then row 9 never applies, and what is answered does not depend on the room.
+-- Room for 2,049 intervals is enough for any job: then row 9 never applies, the table says what it says without that row, and what is answered does not depend on the room.
 use Prim.Native.Nat.{ℕ, _-_, _≤_}
 use mathlib.Core.Path.{_≡_, refl, sym, ap, _∙_}
 use mathlib.Core.Bool.{Bool}
@@ -15,7 +15,7 @@ use Rattle.elements.specs.Reading.{fieldRows, recordRows}
 use Rattle.finder.specs.declared.Window.{Window}
 use Rattle.finder.specs.Samples.{mostSteps, stepsOf}
 use Rattle.finder.specs.Records.{roomOf, roomForAny}
-use Rattle.job.specs.Table.{windowOf, questionOf, noRoom, roomRow, rowsButRoom, rowsFromWindow, tableOf, tableButRoom}
+use Rattle.job.specs.Table.{windowOf, questionOf, noRoom, roomRow, rowsToQuestion, rowsFromWindow, tableOf, tableButRoom}
 use Rattle.job.specs.Outcome.{answersIn, sightsIn, outcomeFrom, recordsFrom, outcomeOf, recordsIn}
 use Rattle.job.specs.Reply.{roomForReply, replyOf}
 use Rattle.job.specs.declared.Outcome.the-variants.{Refused}
@@ -24,7 +24,7 @@ use Rattle.job.proofs.Exactly.{refused-exactly}
 use Rattle.job.proofs.Cases.{window-parts, table-parts, admit-parts}
 
 -- a window of at most 4,096 steps has room
-pub row-passes : (w : Window) (room : ℕ) → stepsOf w ≤ mostSteps → roomForAny ≤ room → roomRow w room ≡ verdict.Passed
+row-passes : (w : Window) (room : ℕ) → stepsOf w ≤ mostSteps → roomForAny ≤ room → roomRow w room ≡ verdict.Passed
 unfolding noRoom roomOf
 row-passes w room few enough = ap (λ (t : Bool). when t refusal.Room) (le-ltb room (roomOf w) (omega arith))
 
@@ -37,11 +37,11 @@ room-never s room enough h =
     not-both (row-passes (windowOf s) room few enough) (gives .applies)
 
 -- rows 6 to 9 are then rows 6 to 8, since more steps than 4,096 are refused before row 9
-any-room : (w : Window) (q room : ℕ) → roomForAny ≤ room → first (rowsFromWindow w q room) ≡ first (rowsButRoom w q)
+any-room : (w : Window) (q room : ℕ) → roomForAny ≤ room → first (rowsFromWindow w q room) ≡ first (rowsToQuestion w q)
 unfolding _then_
-any-room w q room enough = window-parts w q room ∙ by (first (rowsButRoom w q)) refl
+any-room w q room enough = window-parts w q room ∙ by (first (rowsToQuestion w q)) refl
   where
-    by : (v : Verdict) → first (rowsButRoom w q) ≡ v → (v then roomRow w room) ≡ v
+    by : (v : Verdict) → first (rowsToQuestion w q) ≡ v → (v then roomRow w room) ≡ v
     by verdict.Passed h = row-passes w room (let-through w q h .1) enough
     by (verdict.Refused r) h = refl
 

@@ -57,12 +57,12 @@ roomRow w room = when (noRoom w room) refusal.Room
 -- ---- the table
 
 -- 6 to 8, of a window and a question
-abbrev pub rowsButRoom : Window → ℕ → List Verdict
-rowsButRoom w q = windowRow w ∷ stepRow w ∷ questionRow q ∷ []
+abbrev pub rowsToQuestion : Window → ℕ → List Verdict
+rowsToQuestion w q = windowRow w ∷ stepRow w ∷ questionRow q ∷ []
 
--- 6 to 9, of a list too with room for so many bytes
+-- 6 to 9, of a window, a question and a list with room for so many bytes
 abbrev pub rowsFromWindow : Window → ℕ → ℕ → List Verdict
-rowsFromWindow w q room = rowsButRoom w q ++ (roomRow w room ∷ [])
+rowsFromWindow w q room = rowsToQuestion w q ++ (roomRow w room ∷ [])
 
 -- 1 to 9, of a record and a list with room for so many bytes
 unfoldable pub tableOf : List ℕ → ℕ → List Verdict
@@ -70,4 +70,4 @@ tableOf s room = recordRows s ++ rowsFromWindow (windowOf s) (questionOf s) room
 
 -- 1 to 8, of a record: every row but 9, which is given only where a list is written (document 02, wish 3)
 unfoldable pub tableButRoom : List ℕ → List Verdict
-tableButRoom s = recordRows s ++ rowsButRoom (windowOf s) (questionOf s)
+tableButRoom s = recordRows s ++ rowsToQuestion (windowOf s) (questionOf s)

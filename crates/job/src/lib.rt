@@ -6,7 +6,7 @@ ghost use Rattle.refusal.specs.Rows.{first};
 ghost use Rattle.elements.specs.Accepted.{Accepted};
 ghost use Rattle.elements.specs.Reading.{WholeRecord};
 ghost use Rattle.finder.specs.Samples.{Good};
-ghost use Rattle.job.specs.Table.{windowOf, badWindow, badStep, badQuestion, noRoom, roomRow, rowsButRoom, rowsFromWindow};
+ghost use Rattle.job.specs.Table.{windowOf, badWindow, badStep, badQuestion, noRoom, roomRow, rowsToQuestion, rowsFromWindow};
 ghost use Rattle.job.specs.Outcome.{intervalsOf, outcomeBy, recordsBy, outcomeOf, listAfter};
 ghost use Rattle.job.specs.Reply.{jobOf, closingOf, replyOf};
 ghost use Rattle.job.specs.Admission.{admissionFrom, admissionOf};
@@ -86,7 +86,7 @@ fn bad_question(question: u32) -> bool
 
 // Rows 6 to 8.
 fn window_to_question(w: Window, question: u32) -> Verdict
-    ensures { λ v. ⌜ v ≡ first (rowsButRoom w question) ⌝ }
+    ensures { λ v. ⌜ v ≡ first (rowsToQuestion w question) ⌝ }
 {
     let v = row(bad_window(w), Refusal::Window);
     let v = then(v, row(bad_step(w), Refusal::Step));
@@ -121,7 +121,9 @@ fn from_room(e: Elements, question: u32, w: Window, list: &mut [u8]) -> Outcome
     }
 }
 
-// Rows 6 to 9, and then the list. Room is asked only of a window and a step that are let through.
+// ---- the job
+
+// Rows 6 to 9, and then the list. Room is asked behind the others, since only of a good window can the steps be counted.
 fn from_window(e: Elements, question: u32, w: Window, list: &mut [u8]) -> Outcome
     requires { ⌜ Accepted e ⌝ }
     ensures { λ r. ⌜ r ≡ outcomeBy (first (rowsFromWindow w question (length (now (list .entry))))) e question w ⌝ }
@@ -148,7 +150,7 @@ pub fn list(s: &[u8], list: &mut [u8]) -> Outcome
 
 // Rows 6 to 8, and the window.
 fn admit_window(w: Window, question: u32) -> Admission
-    ensures { λ r. ⌜ r ≡ admissionFrom (first (rowsButRoom w question)) w ⌝ }
+    ensures { λ r. ⌜ r ≡ admissionFrom (first (rowsToQuestion w question)) w ⌝ }
 {
     match window_to_question(w, question) {
         Verdict::Refused(r) => Admission::TurnedAway(r),

@@ -4,11 +4,11 @@ use mathlib.Core.Bool.{Bool, true, false, not}
 use Prim.Native.Nat.{ℕ, _+_, _*_, _/_, _%_, _≤_, _<_}
 use native.Mathlib.Nat.{le-refl, lt-of-le-of-lt, mul-le-mul, div-lt-iff-lt-mul, mod-lt}
 use native.Mathlib.Omega.{arith}
-use lib.Dec.{T, lit≤, lit<, leb·zero, lt→ltb, nleb→lt}
+use lib.Dec.{T, leb·zero, lt→ltb, nleb→lt}
 use lib.IntN.{ℤ, pos, negsuc, +ℤ-idr}
 use lib.Signed.{leZ, ltZ, _≤ℤ_, _<ℤ_, leZ-yes, ltZ-yes}
 use borrow.Author.Tests.{lt-leb}
-use Rattle.halving.proofs.Laws.{Differ, ends, exactly, differ}
+use Rattle.halving.proofs.Laws.{Differ, exactly, differ}
 use Rattle.fixed.proofs.Within.{scaled-zero, zero-scaled}
 use Rattle.nearest.specs.Nearest.{nearest}
 use Rattle.angle.specs.Turn.{turn}
@@ -45,11 +45,6 @@ K-whole e E h = rw (h, sine-0, scaled-zero, zero-scaled) (+ℤ-idr (pos E))
 pub one-wide : (e M : ℕ) → (searchOf e M .asked ≡ 32) × (searchOf e M .high ≡ searchOf e M .low + 1)
 unfolding searchOf
 one-wide e M = exactly (reached e M) 32 0 0
-
--- E is less than a turn
-pub kepler-lt : (e M : ℕ) → keplerOf e M < turn
-unfolding keplerOf searchOf
-kepler-lt e M = omega (arith, ends (reached e M) 32 0 turn 0 (lit< tt) (lit≤ tt))
 
 -- ---- K(E) ≤ M < K(E + 1), for M less than a turn
 

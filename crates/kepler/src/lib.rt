@@ -39,7 +39,7 @@ fn reaches(t: &[u32], e: u32, m: Angle, anomaly: u64) -> bool
     mean(t, e, anomaly) <= m.units as i64
 }
 
-// The eccentric anomaly E, searched from 0 and a turn until they are neighbours: the low end.
+// The eccentric anomaly E: the low end of the search from 0 and a turn, once its ends are neighbours.
 pub fn eccentric(t: &[u32], e: u32, m: Angle) -> Angle
     requires { ⌜ (now t ≡ sines) × (Eccentricity e) ⌝ }
     ensures { λ r. ⌜ r .units ≡ keplerOf e (m .units) ⌝ }

@@ -68,12 +68,15 @@ row-append (x ∷ xs) ys (suc k) h = row-append xs ys k (omega arith)
 pub first-split : (k : ℕ) (vs : List Verdict) → first (take k vs) then first (drop k vs) ≡ first vs
 first-split k vs = sym (first-append (take k vs) (drop k vs)) ∙ ap first (take-append-drop k vs)
 
--- rows in two parts and another row behind them
-pub first-parts : (k : ℕ) (vs : List Verdict) (z : Verdict) → first (vs ++ z ∷ []) ≡ (first (take k vs) then (first (drop k vs) then z))
+-- rows and another row behind them
+pub first-last : (vs : List Verdict) (z : Verdict) → first (vs ++ z ∷ []) ≡ (first vs then z)
 unfolding first
+first-last vs z = first-append vs (z ∷ []) ∙ ap (λ (v : Verdict). first vs then v) (then-passed z)
+
+-- which are in two parts themselves
+pub first-parts : (k : ℕ) (vs : List Verdict) (z : Verdict) → first (vs ++ z ∷ []) ≡ (first (take k vs) then (first (drop k vs) then z))
 first-parts k vs z =
-    first-append vs (z ∷ [])
-    ∙ ap (λ (v : Verdict). first vs then v) (then-passed z)
+    first-last vs z
     ∙ ap (λ (v : Verdict). v then z) (sym (first-split k vs))
     ∙ then-assoc (first (take k vs)) (first (drop k vs)) z
 

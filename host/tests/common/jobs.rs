@@ -190,7 +190,7 @@ pub fn put_field(record: &mut [u8], k: usize, bits: u64) {
 }
 
 /// The job's own refusals in order, each with all that come after it: the record, and what is
-/// answered. 9 is not among them, and 10 is never seen.
+/// answered. 9 is not among them.
 pub fn refused_jobs() -> Vec<(Vec<u8>, Answer)> {
     let question = Job {
         question: 0,

@@ -1,4 +1,4 @@
-//! Document 01's own numbers, its refusals and lists, document 02's wishes 1 to 3, and properties over seeded pseudo-random jobs: a file for each paragraph.
+//! Document 01's own numbers, its refusals and lists, document 02's wishes 1 to 3 and 5, and properties over seeded pseudo-random jobs: a file for each paragraph.
 
 #![allow(non_snake_case)]
 

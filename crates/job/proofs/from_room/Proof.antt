@@ -23,8 +23,8 @@ room-row : (c : tie.After-no-room) → let a = c .before .before .args in roomRo
 room-row c = ap (λ (t : Bool). when t Room) (sym (c .no-room .ensures))
 
 -- and it passes on the way to the list
-row-passes : (c : tie.Else1) → let a = c .before .before .before .args in roomRow (a .w) (length (a .list .now)) ≡ Passed
-row-passes c = room-row (c .before) ∙ ap (λ (t : Bool). when t Room) (c .if1 .left)
+room-passes : (c : tie.Else1) → let a = c .before .before .before .args in roomRow (a .w) (length (a .list .now)) ≡ Passed
+room-passes c = room-row (c .before) ∙ ap (λ (t : Bool). when t Room) (c .if1 .left)
 
 -- the whole numbers of accepted elements are bounded
 whole : (c : tie.After-rounded) → Bounded (c .rounded .result)
@@ -65,7 +65,7 @@ list-requires c κs =
     let p = c .before .before in
     let passed = p .before .before .before .before in
     let start = passed .before .before .before in
-    (ready p, start .pre .1, roomy (start .args .w) _ (row-passes passed))
+    (ready p, start .pre .1, roomy (start .args .w) _ (room-passes passed))
 
 same-length : tie.Need-same-length
 same-length c = search needs
@@ -76,7 +76,7 @@ returns-2 c =
     let p = done .before .before .before in
     let passed = p .before .before .before .before in
     let a = passed .before .before .before .args in
-    listed (answersOf (a .e) (a .question)) (sightsOf (a .e) (a .question)) (a .w) (a .list .now) _ _ _ (row-passes passed) (rw (← orbit-is p) (done .list .ensures .0)) (rw (← orbit-is p) (done .list .ensures .1))
+    listed (answersOf (a .e) (a .question)) (sightsOf (a .e) (a .question)) (a .w) (a .list .now) _ _ _ (room-passes passed) (rw (← orbit-is p) (done .list .ensures .0)) (rw (← orbit-is p) (done .list .ensures .1))
 
 pub from-room-spec : {M : Type 1} → statement M
 from-room-spec =

@@ -36,8 +36,7 @@ loop-less c = omega arith
 
 loop-again : tie.Need-loop-again Inv-loop μ-loop
 loop-again c =
-    let here = c .before .before in
-    let inv = here .before .loop .inv in
+    let inv = c .before .before .before .loop .inv in
     (omega arith, inv .1, (_, look-up _ (inv .2 .1) (omega arith) (sym (c .before .reaches .ensures) ∙ c .if1 .taken)))
 
 loop-less-2 : tie.Need-loop-less-2 Inv-loop μ-loop
@@ -45,8 +44,7 @@ loop-less-2 c = omega arith
 
 loop-again-2 : tie.Need-loop-again-2 Inv-loop μ-loop
 loop-again-2 c =
-    let here = c .before .before in
-    let inv = here .before .loop .inv in
+    let inv = c .before .before .before .loop .inv in
     (omega arith, omega arith, (_, look-down _ (inv .2 .1) (omega arith) (sym (c .before .reaches .ensures) ∙ c .if1 .left)))
 
 cast-units : tie.Need-cast-units Inv-loop μ-loop

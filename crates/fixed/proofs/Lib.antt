@@ -5,4 +5,5 @@ pub mod Within
 pub mod Machine
 pub mod Roots
 pub mod Digits
+pub mod Lift
 pub mod Only

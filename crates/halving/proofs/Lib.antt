@@ -3,3 +3,5 @@ pub mod Laws
 pub mod Loop
 pub mod Alike
 pub mod Among
+pub mod Foretold
+pub mod Cells

@@ -1,2 +1,3 @@
 -- The definitions of `halving`.
 pub mod Halving
+pub mod Foretold

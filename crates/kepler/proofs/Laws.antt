@@ -12,8 +12,8 @@ use Rattle.halving.proofs.Laws.{Differ, exactly, differ}
 use Rattle.fixed.proofs.Within.{scaled-zero, zero-scaled}
 use Rattle.nearest.specs.Nearest.{nearest}
 use Rattle.angle.specs.Turn.{turn}
-use Rattle.sine.specs.Table.{π, π-unit, entryOf, scaledSine, added, taken, term, factorial}
-use Rattle.sine.specs.Sine.{wayOf, readingOf, foldOf, sineOf}
+use Rattle.sine.specs.Table.{π, π-unit}
+use Rattle.sine.proofs.Laws.{sine-0}
 use Rattle.kepler.specs.Kepler.{Period, phaseOf, radian, K, reached, searchOf, keplerOf}
 
 -- 683,565,276 is the nearest whole number to 2^32/2π, with the table's π
@@ -31,10 +31,6 @@ phase-lt p t h = part-lt t h (le-refl turn)
 
 -- ---- K at the ends of the search: at a whole turn the two anomalies agree
 
-sine-0 : sineOf 0 ≡ pos 0
-unfolding sineOf foldOf readingOf wayOf entryOf scaledSine added taken term factorial
-sine-0 = refl
-
 K-whole : (e E : ℕ) → E % turn ≡ 0 → K e E ≡ pos E
 unfolding K
 K-whole e E h = rw (h, sine-0, scaled-zero, zero-scaled) (+ℤ-idr (pos E))
@@ -48,7 +44,7 @@ one-wide e M = exactly (reached e M) 32 0 0
 
 -- ---- K(E) ≤ M < K(E + 1), for M less than a turn
 
-passed : (a b : ℤ) → leZ a b ≡ true → a ≤ℤ b
+pub passed : (a b : ℤ) → leZ a b ≡ true → a ≤ℤ b
 passed a b t = leZ-yes (subst T (sym t) tt)
 
 not-le : (a b : ℤ) → T (not (leZ a b)) → T (ltZ b a)

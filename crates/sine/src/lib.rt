@@ -10,7 +10,8 @@ use entries::TABLE;
 
 const SEGMENTS: u32 = 4096;
 
-const SEGMENT: u32 = Angle::QUARTER.units / SEGMENTS;
+// The units from one entry to the next.
+pub const SEGMENT: u32 = Angle::QUARTER.units / SEGMENTS;
 
 // The table, to be made once and lent.
 pub fn table() -> [u32; 4097]

@@ -2,7 +2,7 @@
 
 use super::common::families;
 use super::common::jobs::{
-    any, changing, over, plausible, windowed, LONGEST_LIST, MARS, MOST_STEPS,
+    any, changing, eccentric, over, plausible, windowed, LONGEST_LIST, MARS, MOST_STEPS,
 };
 use super::common::lists::{self, LONGEST_SUMMARY};
 use super::common::random::Random;
@@ -32,6 +32,9 @@ pub fn all() -> Vec<Case> {
     vec![
         case("few changes, question 1", few_changes(random, 1)),
         case("few changes, question 2", few_changes(random, 2)),
+        case("e 0, question 1", of_eccentricity(0.0)),
+        case("e 0.3, question 1", of_eccentricity(0.3)),
+        case("e 0.95, question 1", of_eccentricity(0.95)),
         case("a change in each step, question 1", each_step(random, 1)),
         case("a change in each step, question 2", each_step(random, 2)),
         case("the same phases in each, question 1", same_phases(1)),
@@ -68,10 +71,21 @@ fn unasked(job: Job) -> Job {
     Job { question: 3, ..job }
 }
 
-/// A turn and a half around Mars in 4,096 steps, with at least a change and at most eight.
 fn few_changes(random: &mut Random, question: u32) -> Vec<Vec<u8>> {
+    turn_and_a_half(random, |random| plausible(random, MARS, question))
+}
+
+/// The proved search for E, in which a guess leaves little to do, beside the plain one, which asks K 32
+/// times whatever e is. The same craft but for e, from numbers of their own.
+fn of_eccentricity(e: f64) -> Vec<Vec<u8>> {
+    let random = &mut Random::of("eccentricity");
+    turn_and_a_half(random, |random| eccentric(random, MARS, 1, e))
+}
+
+/// A turn and a half around Mars in 4,096 steps, with at least a change and at most eight.
+fn turn_and_a_half(random: &mut Random, job: impl Fn(&mut Random) -> Job) -> Vec<Vec<u8>> {
     let orbit = || {
-        let job = plausible(random, MARS, question);
+        let job = job(random);
         let step = (job.fields[5] * 1_500.0) as u64 / MOST_STEPS;
         windowed(random, job, MOST_STEPS, step).encode().to_vec()
     };

@@ -57,6 +57,11 @@ pub const PLANETS: [Planet; 3] = [MARS, VENUS, EARTH];
 /// A craft around the planet, watched from a dish, over 10 to 200 steps.
 pub fn plausible(random: &mut Random, planet: Planet, question: u32) -> Job {
     let e = random.float(0.0, 0.9);
+    eccentric(random, planet, question, e)
+}
+
+/// Such a craft on an orbit of that eccentricity.
+pub fn eccentric(random: &mut Random, planet: Planet, question: u32, e: f64) -> Job {
     let axis = (planet.radius + random.float(150.0, 5_000.0)) / (1.0 - e);
     let period = TAU * (axis * axis * axis / planet.pull).sqrt();
     let turn = |random: &mut Random| random.float(0.0, 359.9);

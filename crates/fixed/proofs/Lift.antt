@@ -1,13 +1,13 @@
 -- Signed numbers lifted by c, so that they are whole numbers from 0 on: floors, products, sums and orders become those of ℕ. By cases on the sign.
-use mathlib.Core.Path.{_≡_, refl, sym, _∙_}
+use mathlib.Core.Path.{_≡_, refl, sym, subst, _∙_}
 use mathlib.Core.Bool.{Bool, true, false, cond}
 use Prim.Native.Nat.{ℕ, zero, suc, _+_, _-_, _*_, _/_, _≤_, _<_}
 use native.Mathlib.Nat.{mul-add, mul-sub, mul-assoc}
 use native.Mathlib.Omega.{arith}
 use borrow.Author.Tests.{ltb-true, ltb-false, leb-true, leb-false, le-leb, lt-leb}
-use lib.Dec.{ltb, leb}
-use lib.IntN.{ℤ, pos, negsuc, negℤ, natAbs, subℕ, _+ℤ_, _-ℤ_, _*ℤ_, *ℤ-comm}
-use lib.Signed.{leZ}
+use lib.Dec.{T, ltb, leb, leb→le}
+use lib.IntN.{ℤ, pos, negsuc, negℤ, subℕ, _+ℤ_, _-ℤ_, _*ℤ_, *ℤ-comm}
+use lib.Signed.{leZ, _≤ℤ_}
 use Rattle.fixed.specs.Floor.{floorDiv}
 use Rattle.fixed.specs.Scaled.{one, _∘_}
 use Rattle.fixed.specs.Within.{Within}
@@ -73,21 +73,21 @@ both m n a b h k = on (leb m n) refl
     on false e = sym (lt-leb a b (k (leb-false m n e)))
 
 -- the test of two numbers is that of the lifted ones
-compared : {c : ℕ} {y z : ℤ} → Within y c → Within z c → leZ y z ≡ leb (up c y) (up c z)
-compared {c} {y = pos m} {z = pos n} h k = both m n (c + m) (c + n) (λ l. omega arith) (λ l. omega arith)
-compared {c} {y = pos m} {z = negsuc n} h k = sym (lt-leb (c + m) (c - suc n) (omega arith))
-compared {c} {y = negsuc m} {z = pos n} h k = sym (le-leb (c - suc m) (c + n) (omega arith))
-compared {c} {y = negsuc m} {z = negsuc n} h k = both n m (c - suc m) (c - suc n) (λ l. omega arith) (λ l. omega arith)
+ordered : {c : ℕ} {y z : ℤ} → Within y c → Within z c → leZ y z ≡ leb (up c y) (up c z)
+ordered {c} {y = pos m} {z = pos n} h k = both m n (c + m) (c + n) (λ l. omega arith) (λ l. omega arith)
+ordered {c} {y = pos m} {z = negsuc n} h k = sym (lt-leb (c + m) (c - suc n) (omega arith))
+ordered {c} {y = negsuc m} {z = pos n} h k = sym (le-leb (c - suc m) (c + n) (omega arith))
+ordered {c} {y = negsuc m} {z = negsuc n} h k = both n m (c - suc m) (c - suc n) (λ l. omega arith) (λ l. omega arith)
 
 module _ {c : ℕ} {y z : ℤ} (h : Within y c) (k : Within z c) where
-  pub le-up : leZ y z ≡ true → up c y ≤ up c z
-  le-up t = leb-true (up c y) (up c z) (sym (compared h k) ∙ t)
+  pub le-up : y ≤ℤ z → up c y ≤ up c z
+  le-up l = leb→le (up c y) (up c z) (subst T (ordered h k) (l .le))
 
   pub up-le : up c y ≤ up c z → leZ y z ≡ true
-  up-le l = compared h k ∙ le-leb (up c y) (up c z) l
+  up-le l = ordered h k ∙ le-leb (up c y) (up c z) l
 
   pub above-up : leZ y z ≡ false → up c z < up c y
-  above-up t = leb-false (up c y) (up c z) (sym (compared h k) ∙ t)
+  above-up t = leb-false (up c y) (up c z) (sym (ordered h k) ∙ t)
 
   pub up-above : up c z < up c y → leZ y z ≡ false
-  up-above l = compared h k ∙ lt-leb (up c y) (up c z) l
+  up-above l = ordered h k ∙ lt-leb (up c y) (up c z) l

@@ -57,6 +57,9 @@ told k f e = ap (λ (v : ℤ). ltZ v k) (sym (toZ-ofZ f)) ∙ e
 pub compared : {x v y w : ℤ} → x ≡ v → y ≡ w → leZ x y ≡ leZ v w
 compared e f = cc
 
+pub compared-less : {x v y w : ℤ} → x ≡ v → y ≡ w → ltZ x y ≡ ltZ v w
+compared-less e f = cc
+
 -- ---- the operations
 
 pub sum : {x y v w : ℤ} {m n : ℕ} → Is x v m → Is y w n → Is (x +ℤ y) (v +ℤ w) (m + n)

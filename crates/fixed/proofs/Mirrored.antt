@@ -1,13 +1,13 @@
 -- The mirror −1 − z takes a number below 0 to one that is not, and the floor goes with it. By cases on z's sign.
 use mathlib.Core.Path.{_≡_, refl, ap}
 use mathlib.Core.Bool.{true, false}
-use Prim.Native.Nat.{ℕ, zero, suc, _/_}
+use Prim.Native.Nat.{ℕ, zero, suc, _/_, _<_}
 use native.Mathlib.Nat.{zero-add, div-le-self, lt-of-le-of-lt}
 use native.Mathlib.Omega.{arith}
-use borrow.Author.Tests.{le-ltb, ltb-true}
+use borrow.Author.Tests.{le-ltb, ltb-true, leb-false}
 use lib.Dec.{T}
 use lib.IntN.{ℤ, pos, negsuc, natAbs, _-ℤ_}
-use lib.Signed.{ltZ, nonNeg}
+use lib.Signed.{ltZ, leZ, nonNeg}
 use mir.Syntax.{w64}
 use mir.Val.{SFits}
 use Rattle.fixed.specs.Floor.{floorDiv, mirrorOf}
@@ -28,6 +28,11 @@ mirror-nonNeg (negsuc n) e = tt
 pub test-nonNeg : (z : ℤ) → ltZ z (pos 0) ≡ false → T (nonNeg z)
 test-nonNeg (pos n) e = tt
 test-nonNeg (negsuc n) e = absurd (let h : _≡_ {A = ℕ} 0 1 = cc in omega arith)
+
+-- above 0, by the test that failed
+pub test-above : (z : ℤ) → leZ z (pos 0) ≡ false → T (nonNeg z) × (0 < natAbs z)
+test-above (pos n) e = (tt, leb-false n 0 e)
+test-above (negsuc n) e = absurd (let h : _≡_ {A = ℕ} 0 1 = cc in omega arith)
 
 pub floor-mirror : (z : ℤ) (d : ℕ) → mirrorOf (floorDiv (mirrorOf z) d) ≡ floorDiv z d
 floor-mirror (pos n) d = refl

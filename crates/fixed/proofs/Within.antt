@@ -69,6 +69,10 @@ mul-within {a} {b} h k = record { within = le-trans (le-of-eq (abs-mul a b)) (mu
 pub floor-within : {z : ℤ} {m : ℕ} (d n : ℕ) → Within z m → 0 < d → m ≤ n * d → Within (floorDiv z d) n
 floor-within {z} d n h p k = record { within = abs-floor z d n p (le-trans (h .within) k) }
 
+-- no quotient is further from 0 than what is divided
+pub quotient-within : {z : ℤ} {m : ℕ} (d : ℕ) → Within z m → 0 < d → Within (floorDiv z d) m
+quotient-within {m = m} (suc d) h p = floor-within (suc d) m h p (omega arith)
+
 pub scaled-within : {a b : ℤ} {m n : ℕ} (k : ℕ) → Within a m → Within b n → m * n ≤ k * one → Within (a ∘ b) k
 unfolding _∘_
 scaled-within k h i j = floor-within one k (mul-within h i) (lit< tt) j

@@ -1,5 +1,5 @@
 -- A search that may begin in a cell: halvings toward a point lead to the cell that holds it, and where all is settled outside of the cell the search goes on from there.
-use Prim.Native.Nat.{ℕ, zero, suc, _+_, _-_, _*_, _/_, _^_, _≤_, _<_}
+use Prim.Native.Nat.{ℕ, zero, suc, _+_, _*_, _/_, _^_, _≤_, _<_}
 use mathlib.Core.Path.{_≡_, refl, sym, ap, _∙_}
 use mathlib.Core.Bool.{Bool, true, false, cond}
 use native.Mathlib.Nat.{le-trans, lt-of-lt-of-le, div-eq-of-lt, zero-mul, add-zero, mul-comm, mul-assoc, add-mul, pow-suc, zero-add, suc-add, div-eq-of-lt-le, div-mul-le-self, div-lt-iff-lt-mul, mul-le-mul-right, lt-div-mul-add}
@@ -7,11 +7,14 @@ use native.Mathlib.Omega.{arith}
 use borrow.Author.Tests.{leb-true, leb-false, le-leb, lt-leb}
 use lib.Dec.{leb}
 use lib.Pow.{pow-pos, pow-add}
-use Rattle.halving.specs.declared.Edge.{Edge}
 use Rattle.halving.specs.Halving.{halve, middle}
-use Rattle.halving.specs.Foretold.{toward, cellOf, Told, YesUpTo, NoFrom}
+use Rattle.halving.specs.Foretold.{cellOf, Told, YesUpTo, NoFrom}
 use Rattle.halving.proofs.Laws.{follow, halve-done, halve-turn}
 use Rattle.halving.proofs.Foretold.{foretold}
+
+-- the answer that leads to x
+abbrev toward : ℕ → ℕ → Bool
+toward x a = leb a x
 
 -- n halvings, and then k more of them
 further : (f : ℕ → Bool) (k n low high asked : ℕ) → let e = halve f n low high asked in halve f (n + k) low high asked ≡ halve f k (e .low) (e .high) (e .asked)
@@ -24,34 +27,38 @@ further f k =
 
 -- ---- the cell of w units that holds x, in the one of 2·w units
 
+-- the low end of the wide one
+abbrev wide : ℕ → ℕ → ℕ
+wide x w = x / (w * 2) * (w * 2)
+
 module _ (x w : ℕ) (h : 0 < w) where
-  abbrev wide : ℕ
-  wide = x / (w * 2) * (w * 2)
+  abbrev L : ℕ
+  L = wide x w
 
   twice : (q : ℕ) → q * 2 * w ≡ q * (w * 2)
   twice q = mul-assoc q 2 w ∙ ap (λ (v : ℕ). q * v) (mul-comm 2 w)
 
-  first-half : x < wide + w → x / w * w ≡ wide
+  first-half : x < L + w → x / w * w ≡ L
   first-half l =
       let q = x / (w * 2) in
       let quotient : x / w ≡ q * 2 = div-eq-of-lt-le w (omega (arith, twice q, div-mul-le-self x (w * 2))) (omega (arith, twice q, add-mul (q * 2) 1 w)) in
       rw quotient (twice q)
 
-  second-half : wide + w ≤ x → x / w * w ≡ wide + w
+  second-half : L + w ≤ x → x / w * w ≡ L + w
   second-half l =
       let q = x / (w * 2) in
-      let above : x < wide + w * 2 = lt-div-mul-add (omega arith) in
+      let above : x < L + w * 2 = lt-div-mul-add (omega arith) in
       let quotient : x / w ≡ q * 2 + 1 = div-eq-of-lt-le w (omega (arith, twice q, add-mul (q * 2) 1 w)) (omega (arith, twice q, add-mul (q * 2 + 1) 1 w, add-mul (q * 2) 1 w)) in
       rw quotient (omega (arith, twice q, add-mul (q * 2) 1 w))
 
   -- what one halving toward x makes of the wide cell's ends
-  narrower : let m = middle wide (wide + w * 2) in (cond (toward x m) m wide ≡ x / w * w) × (cond (toward x m) (wide + w * 2) m ≡ x / w * w + w)
+  narrower : let m = middle L (L + w * 2) in (cond (toward x m) m L ≡ x / w * w) × (cond (toward x m) (L + w * 2) m ≡ x / w * w + w)
   narrower = on (toward x m) refl
     where
       m : ℕ
-      m = middle wide (wide + w * 2)
+      m = middle L (L + w * 2)
 
-      on : (t : Bool) → toward x m ≡ t → (cond t m wide ≡ x / w * w) × (cond t (wide + w * 2) m ≡ x / w * w + w)
+      on : (t : Bool) → toward x m ≡ t → (cond t m L ≡ x / w * w) × (cond t (L + w * 2) m ≡ x / w * w + w)
       on true e = let half = second-half (omega (arith, leb-true m x e)) in (omega arith, omega arith)
       on false e = let half = first-half (omega (arith, leb-false m x e)) in (omega arith, omega arith)
 
@@ -61,10 +68,11 @@ unfolding halve
 narrowed x s zero asked = rw (zero-add, add-zero)
 narrowed x s (suc n) asked =
     let w = 2 ^ (n + s) in
+    let L = wide x w in
     let half = narrower x w (pow-pos (n + s)) in
-    let far : wide x w (pow-pos (n + s)) + 1 < wide x w (pow-pos (n + s)) + w * 2 = omega (arith, pow-pos (n + s)) in
+    let far : L + 1 < L + w * 2 = omega (arith, pow-pos (n + s)) in
     let count : asked + 1 + n ≡ asked + suc n = omega arith in
-    rw (suc-add, pow-suc, halve-turn (toward x) n (wide x w (pow-pos (n + s))) (wide x w (pow-pos (n + s)) + w * 2) asked far, half .0, half .1, ← count) (narrowed x s n (asked + 1))
+    rw (suc-add, pow-suc, halve-turn (toward x) n L (L + w * 2) asked far, half .0, half .1, ← count) (narrowed x s n (asked + 1))
 
 -- a cell ends inside what is searched
 pub cell-within : (x s n : ℕ) → x < 2 ^ (n + s) → cellOf x s + 2 ^ s ≤ 2 ^ (n + s)

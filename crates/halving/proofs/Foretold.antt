@@ -1,16 +1,16 @@
 -- A search that another answer foretells: where two answers tell the same outside the bracket that one of them leads to, both lead there. By the induction that follows the search.
-use Prim.Native.Nat.{ℕ, zero, suc, _+_, _-_, _*_, _/_, _^_, _≤_, _<_}
-use mathlib.Core.Path.{_≡_, refl, sym, ap, _∙_}
-use mathlib.Core.Bool.{Bool, true, false, cond}
-use native.Mathlib.Nat.{le-refl, le-trans, zero-add, suc-add}
+use Prim.Native.Nat.{ℕ, suc, _+_, _≤_, _<_}
+use mathlib.Core.Path.{_≡_, refl, _∙_}
+use mathlib.Core.Bool.{Bool, true, false}
+use native.Mathlib.Nat.{le-refl}
 use native.Mathlib.Omega.{arith}
 use Rattle.halving.specs.declared.Edge.{Edge}
 use Rattle.halving.specs.Halving.{halve, middle}
-use Rattle.halving.specs.Foretold.{toward, cellOf, Told}
+use Rattle.halving.specs.Foretold.{Told}
 use Rattle.halving.proofs.Laws.{follow, halve-done, halve-turn}
 
 module _ (f g : ℕ → Bool) where
-  -- e is where g's search leads, and so does f's where both tell the same outside of it
+  -- g's search leads to e, and f's leads there too where both tell the same outside of it
   record Leads (k low high asked : ℕ) (e : Edge) : Type 0 where
     from : low ≤ e .low
     to : e .high ≤ high
@@ -47,5 +47,6 @@ module _ (f g : ℕ → Bool) where
       (λ k low high asked e far t rest. up far t rest)
       (λ k low high asked e far t rest. down far t rest)
 
+  -- halvings that are told the same outside a bracket reach the same bracket
   pub foretold : (k low high asked : ℕ) → let e = halve g k low high asked in Told f g low (e .low) (e .high) high → halve f k low high asked ≡ e
   foretold k low high asked = leads k low high asked .same

@@ -1,21 +1,16 @@
--- What is said of a search that another answer foretells: for the laws of proofs/Foretold.antt, no rule of document 01.
-use Prim.Native.Nat.{ℕ, _+_, _*_, _/_, _^_, _≤_, _<_}
+-- What is said of a search that another answer foretells: for its laws (proofs/Foretold.antt, proofs/Cells.antt) and for contracts of private functions, no rule of document 01.
+use Prim.Native.Nat.{ℕ, _*_, _/_, _^_, _≤_, _<_}
 use mathlib.Core.Path.{_≡_}
 use mathlib.Core.Bool.{Bool, true, false}
-use lib.Dec.{leb}
-
--- the answer that leads to x
-abbrev pub toward : ℕ → ℕ → Bool
-toward x a = leb a x
-
--- the low end of the cell that holds x, where the cells are 2^s long and begin at 0
-abbrev pub cellOf : ℕ → ℕ → ℕ
-cellOf x s = x / 2 ^ s * 2 ^ s
 
 -- f and g tell the same up to `from` and from `to` on, at all points between low and high
 pub record Told (f g : ℕ → Bool) (low from to high : ℕ) : Type 0 where
   pub below : (a : ℕ) → low < a → a ≤ from → f a ≡ g a
   pub above : (a : ℕ) → to ≤ a → a < high → f a ≡ g a
+
+-- the low end of the cell that holds x, where the cells are 2^s long and begin at 0
+abbrev pub cellOf : ℕ → ℕ → ℕ
+cellOf x s = x / 2 ^ s * 2 ^ s
 
 -- f says yes at every point up to m that a search from 0 may ask
 abbrev pub YesUpTo : (ℕ → Bool) → ℕ → Type 0

@@ -6,7 +6,7 @@ use native.Mathlib.Nat.{le-refl, lt-of-le-of-lt, mul-le-mul, div-lt-iff-lt-mul, 
 use native.Mathlib.Omega.{arith}
 use lib.Dec.{T, leb·zero, lt→ltb, nleb→lt}
 use lib.IntN.{ℤ, pos, negsuc, +ℤ-idr}
-use lib.Signed.{leZ, ltZ, _≤ℤ_, _<ℤ_, leZ-yes, ltZ-yes}
+use lib.Signed.{leZ, ltZ, _≤ℤ_, _<ℤ_, leZ-yes, ltZ-yes, clashℤ}
 use borrow.Author.Tests.{lt-leb}
 use Rattle.halving.proofs.Laws.{Differ, exactly, differ}
 use Rattle.fixed.proofs.Within.{scaled-zero, zero-scaled}
@@ -55,6 +55,14 @@ not-le (negsuc a) (negsuc b) t = lt→ltb a b (nleb→lt b a t)
 
 failed : (a b : ℤ) → leZ a b ≡ false → b <ℤ a
 failed a b t = ltZ-yes (not-le a b (subst (λ (x : Bool). T (not x)) (sym t) tt))
+
+-- a test that passed, as the opposite one that failed
+pub beyond : (a b : ℤ) → ltZ a b ≡ true → leZ b a ≡ false
+beyond a b t = on (leZ b a) refl
+  where
+    on : (u : Bool) → leZ b a ≡ u → u ≡ false
+    on true e = clashℤ (ltZ-yes (subst T (sym t) tt)) (passed b a e)
+    on false e = refl
 
 search-differs : (e M : ℕ) → M < turn → Differ (reached e M) (searchOf e M .low) (searchOf e M .high)
 unfolding searchOf reached

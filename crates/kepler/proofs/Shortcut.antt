@@ -1,34 +1,50 @@
--- What a guess leaves of the search: the halvings in a cell outside of which all is settled; and from 0 to a turn there is no outside.
-use mathlib.Core.Path.{_≡_}
+-- Where the search goes on from a guess: in a cell outside of which all is settled; and from 0 to a turn there is no outside.
+use mathlib.Core.Path.{_≡_, refl, ap}
 use Prim.Native.Nat.{ℕ, _+_, _-_, _*_, _%_, _^_, _≤_}
 use native.Mathlib.Omega.{arith}
 use lib.Dec.{lit≤}
 use lib.Pow.{pow-mono}
 use Rattle.halving.specs.Foretold.{cellOf, YesUpTo, NoFrom}
-use Rattle.halving.proofs.Loop.{Looking}
 use Rattle.halving.proofs.Cells.{cell-within, from-cell}
+use Rattle.halving.proofs.Loop.{Looking}
 use Rattle.angle.specs.Turn.{turn}
+use Rattle.kepler.specs.declared.Bracket.{Bracket}
 use Rattle.kepler.specs.Kepler.{reached, searchOf}
-use Rattle.kepler.specs.Shortcut.{InTurn, Left}
+use Rattle.kepler.specs.Shortcut.{InTurn, Halvings, cellAt, GoesOn}
 
-module _ (g s : ℕ) (h : InTurn g) (l : s ≤ 32) where
-  -- as the machine computes the cell's high end
-  pub high-end : {low : ℕ} → low ≡ cellOf g s → low + 1 * 2 ^ s % 2 ^ 64 ≡ cellOf g s + 2 ^ s
-  high-end e = let small : 2 ^ s ≤ 2 ^ 32 = pow-mono {j = 32} l in omega arith
+-- 2^s, as the machine shifts it
+pub shifted : (s : ℕ) → Halvings s → 1 * 2 ^ s % 2 ^ 64 ≡ 2 ^ s
+shifted s l = let small : 2 ^ s ≤ 2 ^ 32 = pow-mono {j = 32} l in omega arith
 
+module _ (g s : ℕ) (h : InTurn g) (l : Halvings s) where
   all : 32 - s + s ≡ 32
   all = omega arith
 
   pub cell-in-turn : cellOf g s + 2 ^ s ≤ turn
   cell-in-turn = rw all at (cell-within g s (32 - s) (rw all h))
 
-  pub left-cell : (e M : ℕ) → YesUpTo (reached e M) (cellOf g s) → NoFrom (reached e M) (cellOf g s + 2 ^ s) turn → Left e M g s
-  unfolding searchOf
-  left-cell e M lower upper = record { few = l; rest = rw all at (from-cell (reached e M) g s (32 - s) (rw all h) lower (rw all upper)) }
+  -- of a bracket that is the cell
+  module _ {b : Bracket} (is : b ≡ cellAt g s) where
+    low-is : b .low ≡ cellOf g s
+    low-is = ap (λ (v : Bracket). v .low) is
 
-pub left-whole : (e M g : ℕ) → InTurn g → Left e M g 32
-left-whole e M g h = left-cell g 32 h (lit≤ tt) e M (λ a p q. absurd (omega arith)) (λ a p q. absurd (omega arith))
+    high-is : b .high ≡ cellOf g s + 2 ^ s
+    high-is = ap (λ (v : Bracket). v .high) is
 
--- a loop that halves may begin so
-pub looking : {e M g s low high : ℕ} → Left e M g s → low ≡ cellOf g s → high ≡ cellOf g s + 2 ^ s → Looking (reached e M) 32 (searchOf e M) low high (32 - s)
-looking {s = s} h p q = let few = h .few in rw (p, q) (record { left = s; all = omega arith; wide = omega arith; rest = h .rest })
+    pub ends-in-turn : (b .low ≤ turn) × (b .high ≤ turn)
+    ends-in-turn = (omega (arith, low-is, cell-in-turn), omega (arith, high-is, cell-in-turn))
+
+    pub goes-on : (e M : ℕ) → YesUpTo (reached e M) (b .low) → NoFrom (reached e M) (b .high) turn → GoesOn e M s b
+    unfolding searchOf
+    goes-on e M lower upper =
+        let rest = from-cell (reached e M) g s (32 - s) (rw all h) (rw low-is at lower) (rw (all, ← high-is) upper) in
+        record { few = l; wide = rw (low-is, high-is); within = ends-in-turn .1; rest = rw (low-is, high-is) (rw all at rest) }
+
+-- the whole search
+pub whole : (e M : ℕ) → GoesOn e M 32 (record { low = 0; high = turn })
+unfolding searchOf
+whole e M = record { few = lit≤ tt; wide = refl; within = lit≤ tt; rest = refl }
+
+-- what is left to a loop that halves
+pub looking : {e M s : ℕ} {b : Bracket} → GoesOn e M s b → Looking (reached e M) 32 (searchOf e M) (b .low) (b .high) (32 - s)
+looking {s = s} c = record { left = s; all = omega (arith, c .few); wide = omega (arith, c .wide); rest = c .rest }

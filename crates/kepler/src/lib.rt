@@ -2,19 +2,18 @@
 // halving. Most of the halvings are left out, since a guess foretells them. `t` is the sine table, lent.
 ghost use mathlib.Core.Path.{_≡_};
 ghost use mathlib.Core.Bool.{true};
-ghost use Prim.Native.Nat.{_≤_};
-ghost use Rattle.halving.specs.Foretold.{cellOf, YesUpTo, NoFrom};
+ghost use Rattle.halving.specs.Foretold.{YesUpTo, NoFrom};
 ghost use Rattle.fixed.specs.Within.{Is};
 ghost use Rattle.angle.specs.Turn.{turn};
 ghost use Rattle.sine.specs.Sine.{sines};
 ghost use Rattle.kepler.specs.Kepler.{Period, phaseOf, Eccentricity, UpToATurn, K, mostMean, reached, keplerOf};
-ghost use Rattle.kepler.specs.Shortcut.{InTurn, Left};
+ghost use Rattle.kepler.specs.Shortcut.{InTurn, Halvings, cellAt, GoesOnIn};
 use angle::Angle;
 
 const TURN: u64 = 4_294_967_296;
 
 // The last unit of a turn.
-const LAST: i64 = 4_294_967_295;
+const LAST: i64 = TURN as i64 - 1;
 
 // The nearest whole number to 2^32/2π.
 const RADIAN: i64 = 683_565_276;
@@ -30,6 +29,15 @@ const FALL: i64 = 2;
 
 // The halvings of a whole search.
 const ALL: u32 = 32;
+
+// Those in the smallest cell that is tried.
+const FEWEST: u32 = 4;
+
+// The two ends of a search.
+struct Bracket {
+    low: u64,
+    high: u64,
+}
 
 // How far an instant lies in a turn that takes `period`: M, and the station's term.
 pub fn phase(period: u32, at: u64) -> Angle
@@ -59,9 +67,11 @@ fn reaches(t: &[u32], e: u32, m: Angle, anomaly: u64) -> bool
     mean(t, e, anomaly) <= m.units as i64
 }
 
-// ---- A guess at E. It is not trusted: whatever it is, the search finds the same, but a good one leaves little of it.
+// ---- a guess at E
 
-// An eighth of a turn times e from M, on the side where E is: E is e·sin E radians away.
+// It is not trusted: whatever it is, the search finds the same E, but a good one leaves little of it to be made.
+
+// An eighth of a turn times e from M, on the side where E is: E is e·sin E radians from M, and this takes one shift.
 fn start(e: u32, m: Angle) -> u64
     requires { ⌜ Eccentricity e ⌝ }
     ensures { λ r. ⌜ InTurn r ⌝ }
@@ -88,7 +98,7 @@ fn in_turn(anomaly: i64) -> u64
     anomaly as u64
 }
 
-// Where K would be M, if it went on as in the segment that holds `at`.
+// Where K would be M, if it went on as in the segment that holds `at`; `at` itself if it does not rise there.
 fn nearer(t: &[u32], e: u32, m: Angle, at: u64) -> u64
     requires { ⌜ (now t ≡ sines) × (Eccentricity e) × (InTurn at) ⌝ }
     ensures { λ r. ⌜ InTurn r ⌝ }
@@ -103,7 +113,7 @@ fn nearer(t: &[u32], e: u32, m: Angle, at: u64) -> u64
     in_turn(low as i64 + fixed::floor_div(missing * (SEGMENT as i64), rise as u64))
 }
 
-// Nearer and nearer, until the segment is the one that holds E.
+// Nearer and nearer, until it stays in its segment or the trials are over.
 fn guess(t: &[u32], e: u32, m: Angle) -> u64
     requires { ⌜ (now t ≡ sines) × (Eccentricity e) ⌝ }
     ensures { λ r. ⌜ InTurn r ⌝ }
@@ -121,7 +131,9 @@ fn guess(t: &[u32], e: u32, m: Angle) -> u64
     at
 }
 
-// ---- What the guess leaves of the search: the halvings in a cell around it, where K at the cell's ends settles every answer outside.
+// ---- the cell in which the search goes on
+
+// K at its ends settles all answers outside, so halvings lead there. A cell that is sure may be told to be not: only speed hangs on that.
 
 // Whether all that the search may ask up to `low` is surely reached. Up to 0 it asks nothing.
 fn yes_up_to(t: &[u32], e: u32, m: Angle, low: u64) -> bool
@@ -139,40 +151,43 @@ fn no_from(t: &[u32], e: u32, m: Angle, high: u64) -> bool
     high == TURN || m.units as i64 + FALL < mean(t, e, high)
 }
 
-// The low end of the cell of 2^s units that holds g.
-fn cell(g: u64, s: u32) -> u64
-    requires { ⌜ (InTurn g) × (s ≤ 32) ⌝ }
-    ensures { λ r. ⌜ r ≡ cellOf g s ⌝ }
+// The cell of 2^s units that holds g.
+fn cell(g: u64, s: u32) -> Bracket
+    requires { ⌜ (InTurn g) × (Halvings s) ⌝ }
+    ensures { λ r. ⌜ r ≡ cellAt g s ⌝ }
 {
-    (g >> s) << s
+    let low = (g >> s) << s;
+    Bracket {
+        low: low,
+        high: low + (1 << s),
+    }
 }
 
-// How many halvings the guess g leaves: those in the first cell that is sure, or all. A cell that is not has an end too close to E; since that may be a round number, at which
-// all cells but the largest end, there are few to try.
-fn left(t: &[u32], e: u32, m: Angle, g: u64) -> u32
+// The first cell around the guess g that is sure, or the turn. One that is not has an end too close to E, or does not hold it. A round number ends
+// cells of every length but the turn's, so few are tried.
+fn sure_cell(t: &[u32], e: u32, m: Angle, g: u64) -> Bracket
     requires { ⌜ (now t ≡ sines) × (Eccentricity e) × (InTurn g) ⌝ }
-    ensures { λ r. ⌜ Left e (m .units) g r ⌝ }
+    ensures { λ r. ⌜ GoesOnIn e (m .units) r ⌝ }
 {
-    let mut s: u32 = 4;
+    let mut s = FEWEST;
     while s < ALL {
-        let low = cell(g, s);
-        if yes_up_to(t, e, m, low) && no_from(t, e, m, low + (1 << s)) {
-            return s;
+        let c = cell(g, s);
+        if yes_up_to(t, e, m, c.low) && no_from(t, e, m, c.high) {
+            return c;
         }
         s = 2 * s;
     }
-    ALL
+    Bracket { low: 0, high: TURN }
 }
 
-// The eccentric anomaly E: the low end of the search from 0 and a turn, once its ends are neighbours. The loop makes what is left of the 32 halvings.
+// The eccentric anomaly E: the low end of the search from 0 and a turn, once its ends are neighbours. Of its 32 halvings those are made that are left in the cell.
 pub fn eccentric(t: &[u32], e: u32, m: Angle) -> Angle
     requires { ⌜ (now t ≡ sines) × (Eccentricity e) ⌝ }
     ensures { λ r. ⌜ r .units ≡ keplerOf e (m .units) ⌝ }
 {
-    let g = guess(t, e, m);
-    let s = left(t, e, m, g);
-    let mut low = cell(g, s);
-    let mut high = low + (1 << s);
+    let c = sure_cell(t, e, m, guess(t, e, m));
+    let mut low = c.low;
+    let mut high = c.high;
     while low + 1 < high {
         let middle = (low + high) / 2;
         if reaches(t, e, m, middle) {

@@ -1,4 +1,4 @@
--- The laws of the sine that its callers cite: the table rises, a reading lies between its neighbours, and no sine passes one.
+-- The laws of the sine that its callers cite: the table rises, and not too fast; a reading lies between its neighbours; no sine passes one.
 use mathlib.Core.Path.{_≡_, refl, ap, subst, subst⁻¹, sym}
 use mathlib.Core.Logic.{⊎-elim}
 use mathlib.Core.Bool.{Bool, true, false, cond, _&&_}
@@ -17,7 +17,7 @@ use Rattle.sine.proofs.Along.{each, at-most-last}
 
 -- ---- the table
 
--- a segment does not fall, and rises by at most 8/5 of its units; a turn of 2^32 units is 2π, so that the sine's slope is at most π/2
+-- a segment does not fall, and rises by at most 8/5 of its units: a quarter turn has as many as one has, so a sine's slope is at most π/2
 steady : ℕ → ℕ → Bool
 steady x y = leb x y && leb (5 * (y - x)) (8 * segment)
 
@@ -26,10 +26,12 @@ tested : (k : ℕ) → k < segments → T (steady (entryAt k) (entryAt (k + 1)))
 unfolding steady entryOf scaledSine added taken term factorial
 tested = each steady entryAt segments tt
 
+-- it never falls
 pub rising : (k : ℕ) → k < segments → entryAt k ≤ entryAt (k + 1)
 unfolding steady
 rising k h = leb→le _ _ (and-yes (leb (entryAt k) (entryAt (k + 1))) _ (tested k h) .0)
 
+-- it rises by at most 8/5
 pub gentle : (k : ℕ) → k < segments → 5 * (entryAt (k + 1) - entryAt k) ≤ 8 * segment
 unfolding steady
 gentle k h = leb→le _ _ (and-yes (leb (entryAt k) (entryAt (k + 1))) _ (tested k h) .1)

@@ -2,7 +2,7 @@
 use mathlib.Core.Path.{_≡_, refl, sym}
 use mathlib.Core.Logic.{⊎-elim}
 use mathlib.Core.Bool.{Bool, true, false, cond}
-use Prim.Native.Nat.{ℕ, _+_, _-_, _*_, _/_, _%_, _^_, _≤_, _<_, min}
+use Prim.Native.Nat.{ℕ, _+_, _-_, _*_, _/_, _%_, _≤_, _<_, min}
 use native.Mathlib.Nat.{le-refl, mul-le-mul-left, mul-le-mul-right, mul-add, mul-assoc, div-add-mod, eq-or-lt-of-le}
 use native.Mathlib.Omega.{arith}
 use lib.Dec.{eqb, ltb}
@@ -67,8 +67,8 @@ reading-same g h l e =
     rw (reading-inside g l, reading-inside h (omega arith), ← e)
     (omega (arith, part-rise _ (gentle (g / segment) (omega arith)) (g % segment) (h % segment)))
 
-below : {P : Type 0} (a b : ℕ) → (a < b → P) → (b ≤ a → P) → P
-below {P} a b h k = on (ltb a b) refl
+on-either-side : {P : Type 0} (a b : ℕ) → (a < b → P) → (b ≤ a → P) → P
+on-either-side {P} a b h k = on (ltb a b) refl
   where
     on : (t : Bool) → ltb a b ≡ t → P
     on true e = h (ltb-true a b e)
@@ -77,7 +77,7 @@ below {P} a b h k = on (ltb a b) refl
 -- two readings, in either order
 reading-rise : (g h : ℕ) → g ≤ quarterTurn → h ≤ quarterTurn → 5 * readingOf h ≤ 5 * readingOf g + 8 * (h - g) + 5
 reading-rise g h m n =
-    below (g / segment) (h / segment)
+    on-either-side (g / segment) (h / segment)
     (λ l. omega (arith, reading-stop g (omega arith), entries-rise (g / segment + 1) (h / segment) (omega arith) (omega arith), reading-start h n))
     (λ l. ⊎-elim (λ e. placed g m (λ i. reading-same g h i (sym e)) (λ i. let same : h ≡ g = omega arith in rw same (omega arith)))
     (λ k. omega (arith, reading-between h (omega arith) .below, entries-climb (h / segment + 1) (g / segment) (omega arith) (omega arith), reading-above g m))
@@ -141,10 +141,10 @@ up-second c θ h l = ⊎-elim (λ e. rw e (at-end c)) (λ k. inside c θ h k) (e
 -- a sine, lifted by one or more, rises over d units by at most 8/5·d and one
 pub sine-rise : (c θ φ : ℕ) → quarterTurn ≤ c → θ ≤ φ → φ ≤ turn → 5 * up c (sineOf (φ % turn)) ≤ 5 * up c (sineOf (θ % turn)) + 8 * (φ - θ) + 5
 sine-rise c θ φ k h l =
-    below φ halfTurn
+    on-either-side φ halfTurn
     (λ f. rw (up-first c θ (omega arith), up-first c φ f)
     (omega (arith, reading-rise (bend 0 θ) (bend 0 φ) (bend-le 0 θ) (bend-le 0 φ), near 0 (omega arith) (omega arith))))
-    (λ f. below θ halfTurn
+    (λ f. on-either-side θ halfTurn
     (λ t. rw (up-first c θ t, up-second c φ f l) (omega arith))
     (λ t. rw (up-second c θ t (omega arith), up-second c φ f l)
     (omega (arith, reading-le (bend 1 θ) (bend-le 1 θ), reading-rise (bend 1 φ) (bend 1 θ) (bend-le 1 φ) (bend-le 1 θ), near 1 t l))))

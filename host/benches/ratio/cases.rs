@@ -2,7 +2,7 @@
 
 use super::common::families;
 use super::common::jobs::{
-    any, changing, eccentric, over, plausible, windowed, LONGEST_LIST, MARS, MOST_STEPS,
+    any, changing, eccentric, over, plausible, windowed, LONGEST_LIST, MARS, MOST_STEPS, VENUS,
 };
 use super::common::lists::{self, LONGEST_SUMMARY};
 use super::common::random::Random;
@@ -32,9 +32,9 @@ pub fn all() -> Vec<Case> {
     vec![
         case("few changes, question 1", few_changes(random, 1)),
         case("few changes, question 2", few_changes(random, 2)),
-        case("e 0, question 1", of_eccentricity(0.0)),
-        case("e 0.3, question 1", of_eccentricity(0.3)),
-        case("e 0.95, question 1", of_eccentricity(0.95)),
+        case("few changes, e 0", of_eccentricity(0.0)),
+        case("few changes, e 0.3", of_eccentricity(0.3)),
+        case("few changes, e 0.95", of_eccentricity(0.95)),
         case("a change in each step, question 1", each_step(random, 1)),
         case("a change in each step, question 2", each_step(random, 2)),
         case("the same phases in each, question 1", same_phases(1)),
@@ -75,14 +75,15 @@ fn few_changes(random: &mut Random, question: u32) -> Vec<Vec<u8>> {
     turn_and_a_half(random, |random| plausible(random, MARS, question))
 }
 
-/// The proved search for E, in which a guess leaves little to do, beside the plain one, which asks K 32
-/// times whatever e is. The same craft but for e, from numbers of their own.
+/// Question 1 on orbits of one eccentricity, drawn from the same numbers for each, and from none of the
+/// other cases': the proved search for E, of which a guess leaves little, beside the plain one, which
+/// asks K 32 times whatever e is. Around Venus, where an orbit of e 0.95 takes less than a month.
 fn of_eccentricity(e: f64) -> Vec<Vec<u8>> {
     let random = &mut Random::of("eccentricity");
-    turn_and_a_half(random, |random| eccentric(random, MARS, 1, e))
+    turn_and_a_half(random, |random| eccentric(random, VENUS, 1, e))
 }
 
-/// A turn and a half around Mars in 4,096 steps, with at least a change and at most eight.
+/// A turn and a half around the planet in 4,096 steps, with at least a change and at most eight.
 fn turn_and_a_half(random: &mut Random, job: impl Fn(&mut Random) -> Job) -> Vec<Vec<u8>> {
     let orbit = || {
         let job = job(random);

@@ -1,60 +1,34 @@
--- `kepler::eccentric` meets its contract. The loop's invariant: what is left of the halvings ends where the search does. It begins in the cell that `left` has found.
-use Prim.Native.Nat.{ℕ, _+_, _*_, _-_, _%_, _^_, _≤_, _<_}
-use mathlib.Core.Path.{_≡_, ap, sym, _∙_}
+-- `kepler::eccentric` meets its contract. The loop's invariant: what is left of the halvings ends where the search does. It begins in the cell that is sure.
+use Prim.Native.Nat.{ℕ, _-_, _≤_, _<_}
+use mathlib.Core.Path.{ap, sym, _∙_}
 use native.Mathlib.Omega.{arith}
 use lib.Pow.{pow-pos}
 use borrow.Author.Needs.{needs}
 use Rattle.halving.specs.declared.Edge.{Edge}
-use Rattle.halving.specs.Foretold.{cellOf}
 use Rattle.halving.proofs.Loop.{Looking, look-done, look-up, look-down}
 use Rattle.angle.specs.Turn.{turn}
 use Rattle.kepler.specs.Kepler.{reached, searchOf, keplerOf}
-use Rattle.kepler.proofs.Shortcut.{high-end, cell-in-turn, looking}
+use Rattle.kepler.proofs.Shortcut.{looking}
 use Rattle.kepler.proofs.eccentric.Statement.{statement}
 use Rattle.kepler.proofs.eccentric.Tie as tie
 
 abbrev Inv-loop : tie.InvT-loop
-Inv-loop t e m g s low₀ high₀ low high =
+Inv-loop t e m low₀ high₀ low high =
     (low < high) × (high ≤ turn) × ((asked : ℕ) × Looking (reached e (m .units)) 32 (searchOf e (m .units)) low high asked)
 
 abbrev μ-loop : tie.MeasureT-loop
-μ-loop t e m g s low₀ high₀ low high = high - low
-
--- the cell's high end: what is computed, and that it lies in the turn
-module _ (c : tie.After-cell Inv-loop μ-loop) where
-  abbrev s : ℕ
-  s = c .before .left .result
-
-  abbrev g : ℕ
-  g = c .before .before .guess .result
-
-  high-is : c .cell .result + 1 * 2 ^ s % 2 ^ 64 ≡ cellOf g s + 2 ^ s
-  high-is = high-end g s (c .before .before .guess .ensures) (c .before .left .ensures .few) (c .cell .ensures)
-
-  high-in : cellOf g s + 2 ^ s ≤ turn
-  high-in = cell-in-turn g s (c .before .before .guess .ensures) (c .before .left .ensures .few)
+μ-loop t e m low₀ high₀ low high = high - low
 
 guess-requires : tie.Need-guess-requires Inv-loop μ-loop
 guess-requires c κs = search needs
 
-left-requires : tie.Need-left-requires Inv-loop μ-loop
-left-requires c κs = search needs
-
-cell-requires : tie.Need-cell-requires Inv-loop μ-loop
-cell-requires c κs = (c .before .guess .ensures, c .left .ensures .few)
-
-cast-high : tie.Need-cast-high Inv-loop μ-loop
-cast-high c = search needs
-
-shl-high : tie.Need-shl-high Inv-loop μ-loop
-shl-high c = omega (arith, c .before .left .ensures .few)
-
-add-high : tie.Need-add-high Inv-loop μ-loop
-add-high c = record { fits = omega (arith, high-is c, high-in c) }
+sure-cell-requires : tie.Need-sure-cell-requires Inv-loop μ-loop
+sure-cell-requires c κs = search needs
 
 loop-holds : tie.Need-loop-holds Inv-loop μ-loop
 loop-holds c =
-    (omega (arith, c .cell .ensures, high-is c, pow-pos (s c)), omega (arith, high-is c, high-in c), (_, looking (c .before .left .ensures) (c .cell .ensures) (high-is c)))
+    let on = c .sure-cell .ensures .1 in
+    (omega (arith, on .wide, pow-pos (c .sure-cell .ensures .0)), on .within, (_, looking on))
 
 add-loop : tie.Need-add-loop Inv-loop μ-loop
 add-loop c = search needs
@@ -95,11 +69,7 @@ eccentric-spec =
     Inv-loop
     μ-loop
     guess-requires
-    left-requires
-    cell-requires
-    cast-high
-    shl-high
-    add-high
+    sure-cell-requires
     loop-holds
     add-loop
     add-middle

@@ -1,34 +1,22 @@
 -- `kepler::nearer` meets its contract: each signed number on the way fits, and what is divided by is above 0.
-use mathlib.Core.Path.{_≡_}
-use mathlib.Core.Bool.{false}
-use Prim.Native.Nat.{ℕ, zero, suc, _+_, _*_, _-_, _%_, _≤_, _<_}
+use Prim.Native.Nat.{_+_, _*_, _-_, _%_, _≤_, _<_}
 use native.Mathlib.Nat.{le-refl}
 use native.Mathlib.Omega.{arith}
 use borrow.Author.Needs.{needs}
-use borrow.Author.Tests.{leb-false}
 use lib.Dec.{T, lit<}
-use lib.IntN.{ℤ, pos, negsuc, natAbs, _-ℤ_, _*ℤ_}
-use lib.Signed.{leZ, nonNeg}
+use lib.IntN.{ℤ, pos, natAbs, _-ℤ_, _*ℤ_}
+use lib.Signed.{nonNeg}
 use mir.Syntax.{w64}
 use mir.Val.{toZ}
-use Rattle.fixed.specs.Floor.{floorDiv}
 use Rattle.fixed.specs.Within.{Within}
 use Rattle.fixed.proofs.Machine.{loc, fit, held, called, cast, plain, operand, sum, difference, product}
-use Rattle.fixed.proofs.Within.{floor-within, fits}
+use Rattle.fixed.proofs.Within.{quotient-within, fits}
+use Rattle.fixed.proofs.Mirrored.{test-above}
 use Rattle.angle.specs.Turn.{turn}
 use Rattle.sine.specs.Sine.{segment}
 use Rattle.kepler.specs.Kepler.{mostMean}
 use Rattle.kepler.proofs.nearer.Statement.{statement}
 use Rattle.kepler.proofs.nearer.Tie as tie
-
--- above 0 by a test
-above : (z : ℤ) → leZ z (pos 0) ≡ false → T (nonNeg z) × (0 < natAbs z)
-above (pos n) e = (tt, leb-false n 0 e)
-above (negsuc n) e = absurd (let h : _≡_ {A = ℕ} 0 1 = cc in omega arith)
-
--- a quotient is no further from 0 than what is divided
-quotient-within : {z : ℤ} {m : ℕ} (d : ℕ) → Within z m → 0 < d → Within (floorDiv z d) m
-quotient-within {m = m} (suc d) h p = floor-within (suc d) m h p (omega arith)
 
 -- K's rise over the segment, how much of M is missing where the segment begins, and that times the segment
 abbrev rise : tie.After-mean2 → ℤ
@@ -39,7 +27,7 @@ rise-within c = difference (held (c .mean2 .ensures) tt) (held (c .before .mean 
 
 module _ (c : tie.After-struct-known) where
   rise-above : T (nonNeg (loc (rise (c .before .before)))) × (0 < natAbs (loc (rise (c .before .before))))
-  rise-above = above (loc (rise (c .before .before))) (c .before .if1 .left)
+  rise-above = test-above (loc (rise (c .before .before))) (c .before .if1 .left)
 
   abbrev missing : ℤ
   missing = toZ w64 (c .before .before .before .before .before .args .m .units) -ℤ loc (c .before .before .before .mean .result)

@@ -1,25 +1,19 @@
 -- `kepler::no_from` meets its contract: from a turn on there is nothing, and else by the law that K falls by at most 2.
-use mathlib.Core.Path.{_≡_, sym, _∙_}
+use mathlib.Core.Path.{sym, _∙_}
 use Prim.Native.Nat.{ℕ, _≤_, _<_, _+_}
 use native.Mathlib.Nat.{le-refl}
 use native.Mathlib.Omega.{arith}
 use borrow.Author.Needs.{needs}
 use lib.Dec.{lit≤}
-use lib.IntN.{ℤ, pos, _+ℤ_}
-use lib.Signed.{ltZ}
+use lib.IntN.{pos, _+ℤ_}
 use mir.Syntax.{w64}
 use mir.Val.{toZ}
 use Rattle.fixed.specs.Within.{Within, Is}
-use Rattle.fixed.proofs.Machine.{loc, fit, held, cast, plain, sum}
+use Rattle.fixed.proofs.Machine.{fit, held, cast, plain, sum, compared-less}
 use Rattle.angle.specs.Turn.{turn}
-use Rattle.kepler.specs.Kepler.{K}
 use Rattle.kepler.proofs.Keeps.{no-from}
 use Rattle.kepler.proofs.no_from.Statement.{statement}
 use Rattle.kepler.proofs.no_from.Tie as tie
-
--- the test of what stands for two numbers is the test of the numbers
-tested : {x v y w : ℤ} → x ≡ v → y ≡ w → ltZ x y ≡ ltZ v w
-tested e f = cc
 
 more-is : (n : ℕ) (c : tie.After-struct-known) → let M = c .before .before .before .args .m .units in Is (toZ w64 M +ℤ pos n) (pos (M + n)) (turn + n)
 more-is n c =
@@ -43,7 +37,7 @@ returns-2 : tie.Need-returns-2
 returns-2 c t =
     let s = c .before .before .before .before in
     let below : s .args .m .units < turn = omega arith in
-    no-from (s .args .e) (s .pre .1) _ _ below (lit≤ tt) (lit≤ tt) _ (sym (tested (held (more-is _ (c .before)) tt .is) (held (c .mean .ensures) tt .is)) ∙ t)
+    no-from (s .args .e) (s .pre .1) _ _ below (lit≤ tt) (lit≤ tt) _ (sym (compared-less (held (more-is _ (c .before)) tt .is) (held (c .mean .ensures) tt .is)) ∙ t)
 
 pub no-from-spec : {M : Type 1} → statement M
 no-from-spec = tie.close (tie.spec cast-result add-result mean-requires returns returns-2)

@@ -54,7 +54,7 @@ module _ (e : ℕ) (h : Eccentricity e) where
       let exact : up (radian * e) (term e E) ≡ radian * (e * lifted E / one) / one = scaled-up (pos e ∘ s) radian e ∙ ap (λ (v : ℕ). radian * v / one) (up-scaled e one s) in
       rw (all, exact) at (up-more (height - radian * e) (term-within E))
 
-  -- it rises no faster than E, but for two units: those of the two floors
+  -- it rises no faster than E, but for two units that the floors add
   term-rise : (E F : ℕ) → E ≤ F → F ≤ turn → up height (term e F) ≤ up height (term e E) + (F - E) + 2
   term-rise E F k l =
       let d = lifted F - lifted E in

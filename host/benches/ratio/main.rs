@@ -1,4 +1,5 @@
-//! The proved code's time by the independent Rust's, on the same jobs in one process.
+//! The proved code's time by the independent Rust's, on the same jobs in one process. The independent
+//! Rust searches each E in full, as document 01 says; of the proved search a guess leaves a part.
 //!
 //! Each case is run several times, the two sides in turn, and the best time of each counts. The
 //! last line has the worst ratio. With `QUECHOTZAL_QUICK` set the runs are few and short: a test

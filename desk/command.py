@@ -1,0 +1,241 @@
+"""The command line of `desk`."""
+import argparse
+import os
+import sys
+import textwrap
+import time
+from datetime import timezone
+from zoneinfo import ZoneInfo, ZoneInfoNotFoundError
+
+from desk import columns, drawing, explaining, ics, listing, words
+from desk.files import FORMS, JobFile
+from desk.program import Failed, Refused, answered
+
+ALL_GOOD, SOME_REFUSED, UNREADABLE, NO_ANSWER, INTERRUPTED, READER_GONE = 0, 1, 2, 3, 130, 141
+FORMATS = {"table": listing.table, "csv": listing.spreadsheet, "json": listing.structured, "ics": ics.calendar}
+MOST_PROCESSES = 256
+
+ABOUT = "Lists of when a craft is hidden by its planet, or visible from a dish, made by the proved program lists. Begin with: bin/desk list samples/day.csv"
+NOTES = """
+A job file is CSV with a header, or a JSON array of objects with the same names. Its columns, in any order, and what the program accepts:
+
+{table}
+
+The epoch is a periapsis passage of the craft. greenwich_right_ascension_deg is Greenwich's right ascension at that very instant: another passage, another value. Both directions and the orbit are against
+the mean Earth equator and equinox of date. visible supposes that the far body is the Earth.
+
+Times are whole milliseconds from the epoch; or, where the column epoch has a UTC instant such as 2026-11-16T06:30:00Z, UTC instants. An instant has Z or an offset such as +01:00, and whole milliseconds.
+Leap seconds are counted: the milliseconds between two instants are those that passed, with the 27 leap seconds from 1972 to 2016, and 23:59:60 is read and shown where there was one. A leap second that is
+announced later has to be added to desk/utc.py. Without an epoch times are shown as days, hours, minutes and seconds from it.
+
+Intervals have both their ends: an interval of one millisecond has a length of 0.001 s. The horizon is the least elevation. What begins and ends inside one step is not seen.
+
+Status: 0 if every job was accepted; 1 if some were refused; 2 if something of the file or of the command could not be read; 3 if the program did not answer. Jobs that can be read and are accepted are listed all
+the same.
+"""
+
+
+class Screen:
+    """Standard output, and standard error with a line of progress where that is a terminal and the work is long."""
+
+    AFTER, EACH = 2, 0.5  # seconds
+
+    def __init__(self):
+        sys.stdout.reconfigure(encoding="utf-8", errors="surrogateescape")
+        sys.stderr.reconfigure(encoding="utf-8", errors="backslashreplace")
+        self.due = time.monotonic() + self.AFTER if sys.stderr.isatty() else float("inf")
+        self.shown = False
+
+    def write(self, piece):
+        self.clear()
+        sys.stdout.write(piece)
+
+    def say(self, message):
+        self.clear()
+        print(f"desk: {message}", file=sys.stderr)
+
+    def clear(self):
+        if self.shown:
+            sys.stderr.write("\r\033[K")
+            sys.stderr.flush()
+            self.shown = False
+
+    def progress(self, jobs, part):
+        if time.monotonic() < self.due:
+            return
+        sys.stdout.flush()
+        known = "" if part is None else f", {part:.0%} of the file read"
+        sys.stderr.write(f"\r\033[Kdesk: {words.counted(jobs, 'job')} answered{known}")
+        sys.stderr.flush()
+        self.shown, self.due = True, time.monotonic() + self.EACH
+
+
+class Run:
+    """A run over a job file: its jobs with their answers, counted."""
+
+    def __init__(self, arguments, screen, needs_epoch=""):
+        self.screen, self.processes, self.needs_epoch = screen, arguments.jobs, needs_epoch
+        self.file = JobFile(arguments.file, arguments.input, screen.say)
+        self.answered = self.refused = 0
+
+    def jobs(self):
+        """The jobs of the file; one without an epoch is told where that is needed."""
+        for job in self.file.jobs():
+            if self.needs_epoch and job.epoch is None:
+                self.file.complain(job.line, columns.EPOCH.name, f"a UTC instant, for {self.needs_epoch},", "")
+            else:
+                yield job
+
+    def answers(self, jobs=None):
+        for job, answer in answered(jobs or self.jobs(), self.processes):
+            self.answered += 1
+            self.refused += isinstance(answer, Refused)
+            yield job, answer
+            self.screen.progress(self.answered, self.file.part_read())
+
+    def status(self):
+        return UNREADABLE if self.file.unreadable else SOME_REFUSED if self.refused else ALL_GOOD
+
+    def summary(self, good):
+        said = f"{words.counted(self.answered, 'job')}: {self.answered - self.refused:,} {good}, {self.refused:,} refused"
+        return said + (f"; {words.counted(self.file.unreadable, 'fault')} in the file" if self.file.unreadable else "")
+
+
+# ---- the commands
+
+def list_jobs(arguments, screen):
+    run = Run(arguments, screen, "--format ics" if arguments.format == "ics" else "--zone" if arguments.zone is not timezone.utc else "")
+    answers = run.answers()
+    if arguments.format == "ics":
+        answers = without_refused(answers, screen)
+    for piece in FORMATS[arguments.format](answers, arguments.zone):
+        screen.write(piece)
+    if arguments.format == "table":
+        screen.write(run.summary("listed") + "\n")
+    elif run.status() != ALL_GOOD:
+        screen.say(run.summary("listed"))
+    return run.status()
+
+
+def without_refused(answers, screen):
+    """The lists alone; each refusal is told, since a calendar has no place for it."""
+    for job, answer in answers:
+        if isinstance(answer, Refused):
+            screen.say(f"job {job.number} is refused ({answer.number}): {words.refusal(job, answer)}")
+        else:
+            yield job, answer
+
+
+def check(arguments, screen):
+    run = Run(arguments, screen)
+    for job, answer in run.answers():
+        verdict = f"refused ({answer.number}): {words.refusal(job, answer)}" if isinstance(answer, Refused) else "accepted"
+        screen.write(f"job {job.number}: {verdict}\n")
+    screen.write(run.summary("accepted") + "\n")
+    return run.status()
+
+
+def draw(arguments, screen):
+    run = Run(arguments, screen, "--zone" if arguments.zone is not timezone.utc else "")
+    answers = [*run.answers()]
+    first, others = answers[0][0] if answers else None, [job for job, _ in answers[1:]]
+    for job in others:
+        if (job.epoch is None) != (first.epoch is None):
+            run.file.complain(job.line, columns.EPOCH.name, "an epoch in every job of a picture, or in none,")
+            return UNREADABLE
+    if not answers:
+        screen.say("there is no job to draw")
+        return UNREADABLE
+    drawn = "".join(drawing.picture(answers, arguments.zone))
+    if arguments.output == "-":
+        screen.write(drawn)
+    else:
+        with open(arguments.output, "w", encoding="utf-8") as file:
+            file.write(drawn)
+    if run.status() != ALL_GOOD:
+        screen.say(run.summary("drawn"))
+    return run.status()
+
+
+def explain(arguments, screen):
+    run = Run(arguments, screen, "--zone" if arguments.zone is not timezone.utc else "")
+    for job, answer in run.answers(job for job in run.jobs() if job.number == arguments.job):
+        for paragraph in explaining.explained(job, answer, arguments.zone):
+            screen.write(textwrap.fill(paragraph, 110, break_on_hyphens=False, break_long_words=False) + "\n\n")
+    if not run.answered:
+        screen.say(f"{arguments.file} has no job {arguments.job} that can be read")
+        return UNREADABLE
+    return run.status()
+
+
+def records(arguments, screen):
+    run = Run(arguments, screen)
+    for job in run.jobs():
+        sys.stdout.buffer.write(job.record())
+    return run.status()
+
+
+# ---- the arguments
+
+def zone(name):
+    """A time zone: None is the machine's own."""
+    if name in ("local", "UTC"):
+        return {"local": None, "UTC": timezone.utc}[name]
+    try:
+        return ZoneInfo(name)
+    except (ZoneInfoNotFoundError, ValueError, OSError):
+        raise argparse.ArgumentTypeError(f"no zone is known by the name {name}; such as Europe/Madrid, or local") from None
+
+
+def processes(text):
+    if not text.isdecimal() or not 1 <= int(text) <= MOST_PROCESSES:
+        raise argparse.ArgumentTypeError(f"1 to {MOST_PROCESSES} is expected")
+    return int(text)
+
+
+def notes():
+    rows = [("column", "holds", "accepted"), *columns.NEEDED, *[(c.name, f"(may be left out) {c.meaning}", c.accepted) for c in columns.OPTIONAL]]
+    return NOTES.format(table="\n".join(f"  {name:<30} {meaning:<50} {accepted}" for name, meaning, accepted in rows))
+
+
+def parser():
+    whole = argparse.ArgumentParser(prog="desk", description=ABOUT, epilog=notes(), formatter_class=argparse.RawDescriptionHelpFormatter, allow_abbrev=False)
+    commands = whole.add_subparsers(required=True, metavar="COMMAND")
+
+    def command(name, does, said, zones=True, runs=True):
+        added = commands.add_parser(name, help=said, description=f"{said[0].upper()}{said[1:]}.", epilog="desk --help tells what a job file holds.", allow_abbrev=False)
+        added.add_argument("file", metavar="FILE", help="a job file, .csv or .json; - is standard input")
+        added.add_argument("--input", choices=FORMS, help="what the file is, where its name does not tell")
+        if runs:
+            added.add_argument("--jobs", type=processes, default=1, metavar="N", help="run N processes of the program side by side; the order stays")
+        if zones:
+            added.add_argument("--zone", type=zone, default=timezone.utc, metavar="NAME", help="show times in a zone such as Europe/Madrid, or local for this machine's; else UTC")
+        added.set_defaults(does=does, **({} if runs else {"jobs": 1}))
+        return added
+
+    command("list", list_jobs, "list the intervals of each job").add_argument("--format", choices=FORMATS, default="table", help="for a person, a spreadsheet, a program, a calendar")
+    command("check", check, "say whether each job is accepted, and why not", zones=False)
+    command("draw", draw, "draw the intervals as a picture, SVG").add_argument("-o", dest="output", metavar="FILE.svg", default="-", help="where to; else to standard output")
+    command("explain", explain, "say what the list of a job promises").add_argument("--job", type=int, required=True, metavar="NUMBER", help="the job's number")
+    command("records", records, "write the orbit records, as bin/lists and bin/totals read them", zones=False, runs=False)
+    return whole
+
+
+def main():
+    screen, arguments = Screen(), parser().parse_args()
+    try:
+        status = arguments.does(arguments, screen)
+        sys.stdout.flush()
+    except BrokenPipeError:
+        os.dup2(os.open(os.devnull, os.O_WRONLY), sys.stdout.fileno())
+        status = READER_GONE
+    except KeyboardInterrupt:
+        status = INTERRUPTED
+    except Failed as error:
+        screen.say(error)
+        status = NO_ANSWER
+    except OSError as error:
+        screen.say(f"{error.filename}: {error.strerror}")
+        status = UNREADABLE
+    screen.clear()
+    return status

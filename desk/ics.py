@@ -1,0 +1,68 @@
+"""Answers as an iCalendar file (RFC 5545), an event for each interval.
+
+A calendar has whole seconds. Of a visible interval the event has the whole seconds inside it, so that no hour is sold that cannot be seen; of a hidden one those that it touches. The exact times are in
+the event's description. An event of no whole second has a beginning and no length.
+"""
+from datetime import datetime, timedelta, timezone
+from hashlib import sha256
+
+from desk import utc, words
+from desk.listing import counts
+from desk.program import Refused
+
+SECOND = timedelta(seconds=1)
+
+
+def calendar(answers, zone):
+    """The calendar's lines. Times are in UTC, which calendars show as local ones; the description has them in the zone."""
+    made = f"{datetime.now(timezone.utc):%Y%m%dT%H%M%SZ}"
+    yield lines("BEGIN:VCALENDAR", "VERSION:2.0", "PRODID:-//Quechotzal//desk//EN")
+    for job, answer in answers:
+        if not isinstance(answer, Refused):
+            for interval in answer.intervals:
+                yield lines(*event(job, answer, interval, zone, made))
+    yield lines("END:VCALENDAR")
+
+
+def event(job, answer, interval, zone, made):
+    """The same interval of the same record and epoch has the same identifier, so that a calendar that is read in again has no event twice."""
+    first, last = (words.moment(job, ms, zone) for ms in (interval.first, interval.last))
+    exact = f"{first} to {last}, {words.clock(words.length(interval))}; begins {words.begins(job, interval)}, ends {words.ends(job, interval)}; the list has {counts(answer)}"
+    inside = job.question == "visible"
+    begin = second(job.epoch + interval.first, up=inside)
+    end = second(job.epoch + interval.last + 1, up=not inside)
+    identity = sha256(job.record() + f"{job.epoch} {interval.first}".encode()).hexdigest()[:32]
+    yield from ("BEGIN:VEVENT", f"UID:{identity}@quechotzal", f"DTSTAMP:{made}", f"DTSTART:{begin}")
+    if begin < end:
+        yield f"DTEND:{end}"
+    yield from (f"SUMMARY:{text(f'job {job.number} {job.question}' + (f': {job.name}' if job.name else ''))}", f"DESCRIPTION:{text(exact)}", "END:VEVENT")
+
+
+def second(ms, up):
+    """A whole second, at an instant or next to it."""
+    if up:
+        ms += -ms % utc.SECOND
+    at, leap = utc.civil(ms, timezone.utc)
+    return f"{at:%Y%m%dT%H%M}{60 if leap else at.second:02}Z"
+
+
+def text(words):
+    for sign in "\\;,":
+        words = words.replace(sign, "\\" + sign)
+    return words
+
+
+def lines(*contents):
+    """Lines as the standard wants them: at most 75 bytes, a longer one goes on behind a space."""
+    return "".join(folded(content) + "\r\n" for content in contents)
+
+
+def folded(content):
+    pieces, size = [""], 0
+    for sign in content:
+        size += len(sign.encode())
+        if size > 75:
+            pieces.append("")
+            size = 1 + len(sign.encode())
+        pieces[-1] += sign
+    return "\r\n ".join(pieces)

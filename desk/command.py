@@ -15,23 +15,31 @@ ALL_GOOD, SOME_REFUSED, UNREADABLE, NO_ANSWER, INTERRUPTED, READER_GONE = 0, 1, 
 FORMATS = {"table": listing.table, "csv": listing.spreadsheet, "json": listing.structured, "ics": ics.calendar}
 MOST_PROCESSES = 256
 
-ABOUT = "Lists of when a craft is hidden by its planet, or visible from a dish, made by the proved program lists. Begin with: bin/desk list samples/day.csv"
+ABOUT = """Lists of when a craft is hidden by its planet, or visible from a dish, made by the proved program `lists`.
+Begin with: bin/desk list samples/day.csv"""
 NOTES = """
-A job file is CSV with a header, or a JSON array of objects with the same names. Its columns, in any order, and what the program accepts:
+A job file is CSV with a header, or a JSON array of objects with the same names. The columns, in any order:
 
 {table}
 
-The epoch is a periapsis passage of the craft. greenwich_right_ascension_deg is Greenwich's right ascension at that very instant: another passage, another value. Both directions and the orbit are against
-the mean Earth equator and equinox of date. visible supposes that the far body is the Earth.
+The epoch is a periapsis passage of the craft, and greenwich_right_ascension_deg is Greenwich's right ascension
+at that very instant: another passage, another value. Orbit, far body and Greenwich are against the mean Earth
+equator and equinox of date. The question visible supposes that the far body is the Earth.
 
-Times are whole milliseconds from the epoch; or, where the column epoch has a UTC instant such as 2026-11-16T06:30:00Z, UTC instants. An instant has Z or an offset such as +01:00, and whole milliseconds.
-Leap seconds are counted: the milliseconds between two instants are those that passed, with the 27 leap seconds from 1972 to 2016, and 23:59:60 is read and shown where there was one. A leap second that is
-announced later has to be added to desk/utc.py. Without an epoch times are shown as days, hours, minutes and seconds from it.
+Times are whole milliseconds from the epoch; or, where the column epoch has a UTC instant, UTC instants such as
+2026-11-16T06:30:00.250Z, with Z or an offset such as +01:00, and of whole milliseconds. Leap seconds are counted:
+between two instants there are as many milliseconds as passed, so one more second for each of the 27 leap seconds
+from 1972 to 2016 between them, and 23:59:60 is read and shown where there was one. A leap second that is announced
+later has to be added to desk/utc.py. Without an epoch times are shown as days, hours, minutes and seconds from it.
 
-Intervals have both their ends: an interval of one millisecond has a length of 0.001 s. The horizon is the least elevation. What begins and ends inside one step is not seen.
+Both ends belong to an interval, so one of a single millisecond has a length of 0.001 s. The horizon is the least
+elevation. What begins and ends inside one step is not seen. In a calendar, which has whole seconds, an event is
+the seconds that are wholly visible, or those that are hidden in part; its description has the exact times.
 
-Status: 0 if every job was accepted; 1 if some were refused; 2 if something of the file or of the command could not be read; 3 if the program did not answer. Jobs that can be read and are accepted are listed all
-the same.
+status  0  every job was accepted
+        1  some were refused, all others listed
+        2  something in the file or the command cannot be read; jobs that can be are listed
+        3  the program did not answer
 """
 
 
@@ -41,7 +49,7 @@ class Screen:
     AFTER, EACH = 2, 0.5  # seconds
 
     def __init__(self):
-        sys.stdout.reconfigure(encoding="utf-8", errors="surrogateescape")
+        sys.stdout.reconfigure(encoding="utf-8")
         sys.stderr.reconfigure(encoding="utf-8", errors="backslashreplace")
         self.due = time.monotonic() + self.AFTER if sys.stderr.isatty() else float("inf")
         self.shown = False
@@ -60,10 +68,11 @@ class Screen:
             sys.stderr.flush()
             self.shown = False
 
-    def progress(self, jobs, part):
+    def progress(self, jobs, file):
         if time.monotonic() < self.due:
             return
         sys.stdout.flush()
+        part = file.part_read()
         known = "" if part is None else f", {part:.0%} of the file read"
         sys.stderr.write(f"\r\033[Kdesk: {words.counted(jobs, 'job')} answered{known}")
         sys.stderr.flush()
@@ -82,7 +91,7 @@ class Run:
         """The jobs of the file; one without an epoch is told where that is needed."""
         for job in self.file.jobs():
             if self.needs_epoch and job.epoch is None:
-                self.file.complain(job.line, columns.EPOCH.name, f"a UTC instant, for {self.needs_epoch},", "")
+                self.file.complain(job.line, columns.EPOCH.name, f"a UTC instant, for {self.needs_epoch}", "")
             else:
                 yield job
 
@@ -91,7 +100,7 @@ class Run:
             self.answered += 1
             self.refused += isinstance(answer, Refused)
             yield job, answer
-            self.screen.progress(self.answered, self.file.part_read())
+            self.screen.progress(self.answered, self.file)
 
     def status(self):
         return UNREADABLE if self.file.unreadable else SOME_REFUSED if self.refused else ALL_GOOD
@@ -141,7 +150,7 @@ def draw(arguments, screen):
     first, others = answers[0][0] if answers else None, [job for job, _ in answers[1:]]
     for job in others:
         if (job.epoch is None) != (first.epoch is None):
-            run.file.complain(job.line, columns.EPOCH.name, "an epoch in every job of a picture, or in none,")
+            run.file.complain(job.line, columns.EPOCH.name, "an epoch in every job of a picture, or in none")
             return UNREADABLE
     if not answers:
         screen.say("there is no job to draw")
@@ -194,8 +203,9 @@ def processes(text):
 
 
 def notes():
-    rows = [("column", "holds", "accepted"), *columns.NEEDED, *[(c.name, f"(may be left out) {c.meaning}", c.accepted) for c in columns.OPTIONAL]]
-    return NOTES.format(table="\n".join(f"  {name:<30} {meaning:<50} {accepted}" for name, meaning, accepted in rows))
+    """The columns with what the program accepts, and what else there is to know."""
+    rows = [("column", "holds", "accepted"), *columns.ALWAYS, ("and, if wanted,", "", ""), *columns.IF_WANTED]
+    return NOTES.format(table="\n".join(f"  {name:<30} {meaning:<39} {accepted}".rstrip() for name, meaning, accepted in rows))
 
 
 def parser():

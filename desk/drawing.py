@@ -58,7 +58,7 @@ class Scale:
         if wall.hour == wall.minute == wall.second == wall.microsecond == 0:
             return f"{wall.day} {wall:%b}" if self.dated else f"day {(wall - ORIGIN).days}"
         text = wall.isoformat(timespec="milliseconds")[11:]
-        return text[: 5 if self.step >= MINUTE else 8 if self.step >= SECOND else 12]
+        return text[:5] if self.step >= MINUTE else text[:8] if self.step >= SECOND else text[6:]
 
 
 def picture(answers, zone):
@@ -108,7 +108,7 @@ def span(listed, scale):
     """From when to when the scale is."""
     early = min(listed, key=lambda job: scale.instant(job, job.start))
     late = max(listed, key=lambda job: scale.instant(job, job.end))
-    return f"{words.moment(early, early.start, scale.zone)} to {words.moment(late, late.end, scale.zone)}"
+    return f"{words.moment(early, early.start, scale.zone)} to {words.moment(late, late.end, scale.zone)}" + " from the epoch" * (not scale.dated)
 
 
 def ruler(scale, bottom):

@@ -22,21 +22,20 @@ def promises(job, answer, zone):
     start, end = (words.moment(job, ms, zone) for ms in (job.start, job.end))
     asked = "the planet hides the craft from the far body" if job.question == "hidden" else "the dish can see the craft: the planet is up, and does not hide it"
     return (
-        f" asks when {asked}, from {start} to {end}. The list has {words.counted(len(answer.intervals), 'interval')}. It is proved that they are in order, inside the window and at least one millisecond apart"
-        f" [in-order]; that a sample, one each {job.step:,} ms, lies in an interval exactly if its answer is yes [at-samples]; and that each step whose ends differ holds exactly one change, between two"
-        " neighbouring milliseconds that differ in that direction, and no other step holds one [one-change, no-change]. What begins and ends inside one step is not promised."
+        f" asks when {asked}, from {start} to {end}. The list has {words.counted(len(answer.intervals), 'interval')}. It is proved that intervals are in order, inside the window and with at least one"
+        f" instant between neighbours [in-order]; that a sample, one each {job.step:,} ms, lies in an interval exactly if its answer is yes [at-samples]; and that each step whose ends differ holds exactly"
+        " one change, between two neighbouring milliseconds that differ in that direction, and no other step holds one [one-change, no-change]. What begins and ends inside one step is not promised."
     )
 
 
 def both_ends(job, answer, zone):
-    """Whether each interval has both its ends, and which of them the window cut."""
-    cut = [word for word, flag in (("start", BEGIN_FLAG), ("end", END_FLAG)) if any(interval.flags & flag for interval in answer.intervals)]
+    """That each interval has both its ends, and which of them are the window's."""
     if not answer.intervals:
-        return "This list has no interval: the answer was no at every sample [at-samples]."
-    by_window = f"; the window's {' and its '.join(cut)} cut {'it' if len(cut) == 1 else 'them'} off, and the list says so" if cut else "; the window cut off none of them"
-    both = f"Each of its {words.counted(len(answer.intervals), 'interval')} is" if len(answer.intervals) > 1 else "Its one interval is"
-    last = answer.intervals[-1]
-    return f"{both} one record with a first and a last instant [record-bytes, in-order], down to the last, {words.moment(job, last.first, zone)} to {words.moment(job, last.last, zone)}{by_window} [flags-are]."
+        return "This list has no interval at all: the answer was no at every sample [at-samples]."
+    first, last = answer.intervals[0], answer.intervals[-1]
+    cut = ["the first begins at the window's start"] * bool(first.flags & BEGIN_FLAG) + ["the last ends at the window's end"] * bool(last.flags & END_FLAG)
+    by_window = f"; {' and '.join(cut)}, and is marked so [flags-are]" if cut else "; none is cut off by the window"
+    return f"Each interval is one record with its first and its last instant [record-bytes, in-order], down to the last one, {words.moment(job, last.first, zone)} to {words.moment(job, last.last, zone)}{by_window}."
 
 
 def window_end(job, answer, zone):

@@ -45,13 +45,13 @@ def time(text, epoch):
     if WHOLE.fullmatch(text):
         return whole(text, U64)
     if epoch is None:
-        raise ValueError("whole milliseconds from the epoch (a UTC instant only where the column epoch has one)")
+        raise ValueError("whole milliseconds from the epoch (or a UTC instant, where the column epoch has one)")
     try:
         ms = utc.read(text) - epoch
     except ValueError as error:
         raise ValueError(f"whole milliseconds from the epoch, or {error}") from None
     if ms < 0:
-        raise ValueError(f"an instant not before the epoch, {utc.shown(epoch)},")
+        raise ValueError(f"an instant not before the epoch, {utc.shown(epoch)}")
     return ms
 
 

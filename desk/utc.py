@@ -43,15 +43,15 @@ def read(text):
     try:
         at = datetime.fromisoformat(f"{day}T{minute}:{'59' if leap else second or '00'}{offset.replace('Z', '+00:00')}")
     except ValueError:
-        raise ValueError(f"{EXPECTED}, that there is") from None
+        raise ValueError("a UTC instant that there is") from None
     if fraction[3:].strip("0"):
-        raise ValueError("an instant of whole milliseconds")
+        raise ValueError("a UTC instant of whole milliseconds")
     plain = (at - BEGIN) // MS + int(fraction[:3].ljust(3, "0"))
     ms = counted(plain) + SECOND * leap
     if leap and not in_leap_second(ms)[0]:
-        raise ValueError("an instant that there is; no leap second was then")
+        raise ValueError("a UTC instant that there is (it had no leap second then)")
     if not 1972 <= at.year <= 9998 or ms < 0:
-        raise ValueError("an instant of the years 1972 to 9998")
+        raise ValueError("a UTC instant of the years 1972 to 9998")
     return ms
 
 

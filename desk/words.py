@@ -63,7 +63,7 @@ def refusal(job, refused):
         return f"{column.name} {value} {what}; accepted: {column.accepted}"
     axis, eccentricity, radius = (number(job.fields[k]) for k in (0, 1, 6))
     return {
-        5: f"the closest distance, semimajor_axis_km * (1 - eccentricity), here {axis} * (1 - {eccentricity}), is not above planet_radius_km {radius}; accepted: above it",
+        5: f"closest distance semimajor_axis_km * (1 - eccentricity) = {axis} * (1 - {eccentricity}) is not above planet_radius_km {radius}; accepted: above it",
         6: f"window_start {job.start} ms and window_end {job.end} ms are no window; accepted: window_start {columns.START.accepted}, window_end {columns.END.accepted}",
         7: f"step_ms {job.step} does not suit a window of {job.end - job.start} ms; accepted: {columns.STEP.accepted}",
     }[refused.number]

@@ -8,6 +8,7 @@ from desk.program import Refused
 LABELS, PLOT, COUNTS, ROW, TOP, FOOT = 260, 840, 110, 22, 70, 28  # pixels: the columns of a line, its height, what is above the first and below the last
 BAR, BOUND = 12, 18  # heights
 THINNEST = 0.7
+LONGEST_NAME, LONGEST_REASON = 24, 135  # characters that have room
 SECOND, MINUTE, HOUR, DAY = 1_000, 60_000, 3_600_000, 86_400_000
 # Between two labels of the scale: the least of these that gives no more than MARKS.
 STEPS = [n * unit for unit, ns in ((1, (1, 2, 5, 10, 20, 50, 100, 200, 500)), (SECOND, (1, 2, 5, 10, 15, 30)), (MINUTE, (1, 2, 5, 10, 15, 30)), (HOUR, (1, 2, 3, 6, 12)), (DAY, (1, 2, 5, 7, 14))) for n in ns]
@@ -126,10 +127,12 @@ def ruler(scale, bottom):
 def row(job, answer, scale, middle, zone):
     """A job's line: its number and name, its window with the bars, and how many there are."""
     base = middle + 4
-    yield text(82, base, str(job.number), "end") + text(92, base, cut(job.name, 24), "", job.name)
+    yield text(82, base, str(job.number), "end")
+    if job.name:
+        yield text(92, base, cut(job.name, LONGEST_NAME), "", job.name)
     if isinstance(answer, Refused):
         why = f"refused ({answer.number}): {words.refusal(job, answer)}"
-        yield text(LABELS + 8, base, cut(why, 135), "refused", why)
+        yield text(LABELS + 8, base, cut(why, LONGEST_REASON), "refused", why)
         return
     left, right = (scale.x(scale.instant(job, ms)) for ms in (job.start, job.end))
     yield f'<line x1="{left}" y1="{middle}" x2="{right}" y2="{middle}" class="window"/>\n'

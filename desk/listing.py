@@ -9,15 +9,15 @@ from desk.program import Refused
 # ---- a table
 
 HEAD = ("job", "from", "to", "length", "begins", "ends")
+LONGEST_WITHOUT_DATE = len("31d 00:00:00.000")
 
 
 def table(answers, zone):
-    """A line for each interval, one with the counts behind them, or one that says why the job is refused."""
+    """A line for each interval, one with the counts behind them, or one that says why the job is refused. The head comes again where times are written in another way."""
     wide = None
     for job, answer in answers:
-        times = len(words.moment(job, 0, zone))
-        if times != wide:
-            wide = times
+        before, wide = wide, max(LONGEST_WITHOUT_DATE, len(words.moment(job, 0, zone)))
+        if wide != before:
             yield line(wide, *HEAD)
         if isinstance(answer, Refused):
             yield f"{job.number:<10}  refused ({answer.number}): {words.refusal(job, answer)}{called(job)}\n\n"

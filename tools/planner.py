@@ -23,9 +23,9 @@ def row(record_numbers):
 
 
 def csv_of(*rows):
-    """A CSV file; the columns are those of the first row."""
+    """A CSV file with every column that a row has."""
     page = io.StringIO()
-    writer = csv.DictWriter(page, rows[0])
+    writer = csv.DictWriter(page, dict.fromkeys(name for each in rows for name in each), "")
     writer.writeheader()
     writer.writerows(rows)
     return page.getvalue().encode()

@@ -231,13 +231,20 @@ def parser():
     return whole
 
 
+def let_go():
+    """What is still to be written is written; where that fails it is left, so that the end does not fail as well."""
+    try:
+        sys.stdout.flush()
+    except OSError:
+        os.dup2(os.open(os.devnull, os.O_WRONLY), sys.stdout.fileno())
+
+
 def main():
     screen, arguments = Screen(), parser().parse_args()
     try:
         status = arguments.does(arguments, screen)
         sys.stdout.flush()
     except BrokenPipeError:
-        os.dup2(os.open(os.devnull, os.O_WRONLY), sys.stdout.fileno())
         status = READER_GONE
     except KeyboardInterrupt:
         status = INTERRUPTED
@@ -245,7 +252,8 @@ def main():
         screen.say(error)
         status = NO_ANSWER
     except OSError as error:
-        screen.say(f"{error.filename}: {error.strerror}")
+        screen.say(f"{error.filename or 'standard output'}: {error.strerror}")
         status = UNREADABLE
     screen.clear()
+    let_go()
     return status

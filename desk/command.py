@@ -82,8 +82,10 @@ class Screen:
 class Run:
     """A run over a job file: its jobs with their answers, counted."""
 
-    def __init__(self, arguments, screen, needs_epoch=""):
-        self.screen, self.processes, self.needs_epoch = screen, arguments.jobs, needs_epoch
+    def __init__(self, arguments, screen):
+        self.screen, self.processes = screen, arguments.jobs
+        # What of the command makes no sense without the jobs' epochs, if anything.
+        self.needs_epoch = "--format ics" if arguments.format == "ics" else "--zone" if arguments.zone is not timezone.utc else ""
         self.file = JobFile(arguments.file, arguments.input, screen.say)
         self.answered = self.refused = 0
 
@@ -113,7 +115,7 @@ class Run:
 # ---- the commands
 
 def list_jobs(arguments, screen):
-    run = Run(arguments, screen, "--format ics" if arguments.format == "ics" else "--zone" if arguments.zone is not timezone.utc else "")
+    run = Run(arguments, screen)
     answers = run.answers()
     if arguments.format == "ics":
         answers = without_refused(answers, screen)
@@ -145,16 +147,16 @@ def check(arguments, screen):
 
 
 def draw(arguments, screen):
-    run = Run(arguments, screen, "--zone" if arguments.zone is not timezone.utc else "")
+    run = Run(arguments, screen)
     answers = [*run.answers()]
-    first, others = answers[0][0] if answers else None, [job for job, _ in answers[1:]]
-    for job in others:
-        if (job.epoch is None) != (first.epoch is None):
-            run.file.complain(job.line, columns.EPOCH.name, "an epoch in every job of a picture, or in none")
-            return UNREADABLE
     if not answers:
         screen.say("there is no job to draw")
         return UNREADABLE
+    jobs = [job for job, _ in answers]
+    for job in jobs:
+        if (job.epoch is None) != (jobs[0].epoch is None):
+            run.file.complain(job.line, columns.EPOCH.name, "an epoch in every job of a picture, or in none")
+            return UNREADABLE
     drawn = "".join(drawing.picture(answers, arguments.zone))
     if arguments.output == "-":
         screen.write(drawn)
@@ -167,7 +169,7 @@ def draw(arguments, screen):
 
 
 def explain(arguments, screen):
-    run = Run(arguments, screen, "--zone" if arguments.zone is not timezone.utc else "")
+    run = Run(arguments, screen)
     for job, answer in run.answers(job for job in run.jobs() if job.number == arguments.job):
         for paragraph in explaining.explained(job, answer, arguments.zone):
             screen.write(textwrap.fill(paragraph, 110, break_on_hyphens=False, break_long_words=False) + "\n\n")
@@ -210,6 +212,7 @@ def notes():
 
 def parser():
     whole = argparse.ArgumentParser(prog="desk", description=ABOUT, epilog=notes(), formatter_class=argparse.RawDescriptionHelpFormatter, allow_abbrev=False)
+    whole.set_defaults(jobs=1, zone=timezone.utc, format="table")
     commands = whole.add_subparsers(required=True, metavar="COMMAND")
 
     def command(name, does, said, zones=True, runs=True):
@@ -220,7 +223,7 @@ def parser():
             added.add_argument("--jobs", type=processes, default=1, metavar="N", help="run N processes of the program side by side; the order stays")
         if zones:
             added.add_argument("--zone", type=zone, default=timezone.utc, metavar="NAME", help="show times in a zone such as Europe/Madrid, or local for this machine's; else UTC")
-        added.set_defaults(does=does, **({} if runs else {"jobs": 1}))
+        added.set_defaults(does=does)
         return added
 
     command("list", list_jobs, "list the intervals of each job").add_argument("--format", choices=FORMATS, default="table", help="for a person, a spreadsheet, a program, a calendar")

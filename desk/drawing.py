@@ -5,22 +5,25 @@ from html import escape
 from desk import utc, words
 from desk.program import Refused
 
-LABELS, PLOT, COUNTS, ROW, TOP, FOOT = 260, 840, 110, 22, 70, 28  # pixels: the columns of a line, its height, what is above the first and below the last
-BAR, BOUND = 12, 18  # heights
-THINNEST = 0.7
+# Pixels: a line's three columns and its height, what is above the first line and below the last, a bar's height and a bound's, and the least that can be seen.
+LABELS, PLOT, COUNTS, ROW, TOP, FOOT = 260, 840, 110, 22, 70, 28
+BAR, BOUND, THINNEST = 12, 18, 0.7
 LONGEST_NAME, LONGEST_REASON = 24, 135  # characters that have room
 SECOND, MINUTE, HOUR, DAY = 1_000, 60_000, 3_600_000, 86_400_000
-# Between two labels of the scale: the least of these that gives no more than MARKS.
-STEPS = [n * unit for unit, ns in ((1, (1, 2, 5, 10, 20, 50, 100, 200, 500)), (SECOND, (1, 2, 5, 10, 15, 30)), (MINUTE, (1, 2, 5, 10, 15, 30)), (HOUR, (1, 2, 3, 6, 12)), (DAY, (1, 2, 5, 7, 14))) for n in ns]
-MARKS = 14
-MOST_DAYS = 62  # with a line for each
+# Between two labels of the scale: the least of these, or so many days, that gives no more labels than have room.
+STEPS = [
+    *(1, 2, 5, 10, 20, 50, 100, 200, 500),
+    *(SECOND * n for n in (1, 2, 5, 10, 15, 30)),
+    *(MINUTE * n for n in (1, 2, 5, 10, 15, 30)),
+    *(HOUR * n for n in (1, 2, 3, 6, 12)),
+    *(DAY * n for n in (1, 2, 5, 7, 14)),
+]
+MOST_LABELS, MOST_DAYS = 14, 62  # of which each has a line
+ORIGIN = datetime(1, 1, 1)
 STYLE = """text { font: 12px sans-serif; fill: #222 }
 .small { font-size: 11px; fill: #555 } .end { text-anchor: end } .middle { text-anchor: middle } .refused { fill: #b00020 }
 .even { fill: #f5f6f8 } .day { stroke: #9aa3ad } .mark { stroke: #d5d9de } .window { stroke: #777 } .bound { stroke: #333; stroke-width: 1.6 }
 .hidden { fill: #27496d } .visible { fill: #e08a00 }"""
-
-
-ORIGIN = datetime(1, 1, 1)
 
 
 class Scale:
@@ -31,7 +34,7 @@ class Scale:
         self.first = min(self.instant(job, job.start) for job in jobs)
         self.last = max(self.instant(job, job.end) for job in jobs)
         self.span = self.last - self.first
-        self.step = next((step for step in STEPS if self.span <= step * MARKS), -(-self.span // (DAY * MARKS)) * DAY)
+        self.step = next((step for step in STEPS if self.span <= step * MOST_LABELS), -(-self.span // (DAY * MOST_LABELS)) * DAY)
 
     def instant(self, job, ms):
         return ms + (job.epoch or 0)
@@ -47,13 +50,15 @@ class Scale:
         return utc.of_civil(wall, self.zone) if self.dated else (wall - ORIGIN) // utc.MS
 
     def every(self, step):
-        """The instants on the scale at which such a clock shows a multiple of the step from midnight, and what it shows."""
-        wall = self.wall(self.first)
-        wall -= (wall - wall.replace(hour=0, minute=0, second=0, microsecond=0)) % (step * utc.MS)
-        while self.of_wall(wall) <= self.last:
-            if self.of_wall(wall) >= self.first:
-                yield self.of_wall(wall), wall
-            wall += step * utc.MS
+        """The instants on the scale at which such a clock shows a multiple of the step from midnight, and what it shows. What it leaves out, as when summer time begins, is left out."""
+        step *= utc.MS
+        first, last = self.wall(self.first), self.wall(self.last)
+        begin = first - (first - first.replace(hour=0, minute=0, second=0, microsecond=0)) % step
+        for k in range((last - begin) // step + 1):
+            wall = begin + k * step
+            at = self.of_wall(wall)
+            if self.first <= at <= self.last and self.wall(at) == wall:
+                yield at, wall
 
     def label(self, wall):
         if wall.hour == wall.minute == wall.second == wall.microsecond == 0:

@@ -5,6 +5,7 @@ import json
 import subprocess
 
 import driven
+import sample
 
 # In the order of the orbit record.
 COLUMNS = (
@@ -20,6 +21,12 @@ def row(record_numbers):
     """A row of the numbers of a record, as driven.record takes them: job, fields, t0, t1, step, question."""
     job, fields, *window, question = record_numbers
     return dict(zip(COLUMNS, [str(job), *map(repr, fields), *map(str, window), {1: "hidden", 2: "visible"}[question]]))
+
+
+def goldstone(**cells):
+    """The sample's job for the dish at Goldstone, with other cells."""
+    job, *fields, t0, t1, step, question = map(sample.plain, sample.table()["goldstone"])
+    return {**row((int(job), map(float, fields), int(t0), int(t1), int(step), int(question))), "epoch": "2026-01-01T00:00:00Z", **cells}
 
 
 def csv_of(*rows):

@@ -48,6 +48,11 @@ def json_of(*rows):
     return f"[{', '.join(objects)}]\n".encode()
 
 
+def first_use():
+    """Whether bin/lists answers. Where the sources have changed since it last did, it proves and builds first, with no limit of time, and says so; later uses say nothing."""
+    return subprocess.run([driven.ROOT / "bin" / "lists"], stdin=subprocess.DEVNULL, capture_output=True).returncode == 0
+
+
 def desk(*arguments, given=b"", root=driven.ROOT, **more):
     """A use of bin/desk, to its end: status, what it writes, and the lines that it says."""
     ended = subprocess.run([root / "bin" / "desk", *arguments], input=given, capture_output=True, timeout=driven.LIMIT, **more)

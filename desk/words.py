@@ -28,7 +28,7 @@ def ends(job, interval):
 
 
 def number(x):
-    """The shortest text that is read as this very float."""
+    """A float with the fewest digits that are read as this very float."""
     return repr(x).removesuffix(".0")
 
 

@@ -21,11 +21,11 @@ FIELDS = (
 )
 JOB = Column("job", "a number that each answer comes with", "0 to 4,294,967,295")
 START = Column("window_start", "ms from the epoch, or a UTC instant", "before window_end")
-END = Column("window_end", "the same", "to 2,678,400,000, which is 31 days")
+END = Column("window_end", "the same", "to 31 days, 2,678,400,000 ms, from the epoch")
 STEP = Column("step_ms", "from sample to sample", "1 to 1,048,576, and at most 4,096 steps")
 QUESTION = Column("question", "what the list is of", "hidden or visible")
 EPOCH = Column("epoch", "a periapsis passage, a UTC instant", "1972 to 9998, whole ms")
-NAME = Column("name", "what you call the job", "any text")
+NAME = Column("name", "what you call the job", "a line of text")
 
 ALWAYS = (JOB, *FIELDS, START, END, STEP, QUESTION)
 IF_WANTED = (EPOCH, NAME)

@@ -4,11 +4,13 @@ import os
 import sys
 import textwrap
 import time
+import traceback
 from datetime import timezone
 from zoneinfo import ZoneInfo, ZoneInfoNotFoundError
 
 from desk import columns, drawing, explaining, ics, listing, words
 from desk.files import FORMS, JobFile
+from desk.jobs import U32, whole
 from desk.program import Failed, Refused, answered
 
 ALL_GOOD, SOME_REFUSED, UNREADABLE, NO_ANSWER, INTERRUPTED, READER_GONE = 0, 1, 2, 3, 130, 141
@@ -39,7 +41,8 @@ the seconds that are wholly visible, or those that are hidden in part; its descr
 status  0  every job was accepted
         1  some were refused, all others listed
         2  something in the file or the command cannot be read; jobs that can be are listed
-        3  the program did not answer
+        3  the program did not answer, or the desk itself failed
+        130, 141  it was interrupted; what read its output went away
 """
 
 
@@ -49,6 +52,9 @@ class Screen:
     AFTER, EACH = 2, 0.5  # seconds
 
     def __init__(self):
+        for name, mode, access in (("stdin", "r", os.O_RDONLY), ("stdout", "w", os.O_RDONLY), ("stderr", "w", os.O_WRONLY)):
+            if getattr(sys, name) is None:  # it was closed: now it is empty, cannot be written, or swallows
+                setattr(sys, name, open(os.open(os.devnull, access), mode))
         sys.stdout.reconfigure(encoding="utf-8")
         sys.stderr.reconfigure(encoding="utf-8", errors="backslashreplace")
         self.due = time.monotonic() + self.AFTER if sys.stderr.isatty() else float("inf")
@@ -87,7 +93,7 @@ class Run:
         # What of the command makes no sense without the jobs' epochs, if anything.
         self.needs_epoch = "--format ics" if arguments.format == "ics" else "--zone" if arguments.zone is not timezone.utc else ""
         self.file = JobFile(arguments.file, arguments.input, screen.say)
-        self.answered = self.refused = 0
+        self.answered = self.refused = self.intervals = 0
 
     def jobs(self):
         """The jobs of the file; one without an epoch is told where that is needed."""
@@ -101,6 +107,7 @@ class Run:
         for job, answer in answered(jobs or self.jobs(), self.processes):
             self.answered += 1
             self.refused += isinstance(answer, Refused)
+            self.intervals += 0 if isinstance(answer, Refused) else len(answer.intervals)
             yield job, answer
             self.screen.progress(self.answered, self.file)
 
@@ -121,6 +128,8 @@ def list_jobs(arguments, screen):
         answers = without_refused(answers, screen)
     for piece in FORMATS[arguments.format](answers, arguments.zone):
         screen.write(piece)
+    if arguments.format == "ics" and not run.intervals:
+        screen.say("no job has an interval, so the calendar has no event")
     if arguments.format == "table":
         screen.write(run.summary("listed") + "\n")
     elif run.status() != ALL_GOOD:
@@ -158,14 +167,21 @@ def draw(arguments, screen):
             run.file.complain(job.line, columns.EPOCH.name, "an epoch in every job of a picture, or in none")
             return UNREADABLE
     drawn = "".join(drawing.picture(answers, arguments.zone))
-    if arguments.output == "-":
-        screen.write(drawn)
-    else:
-        with open(arguments.output, "w", encoding="utf-8") as file:
-            file.write(drawn)
+    save(drawn, arguments.output, screen)
     if run.status() != ALL_GOOD:
         screen.say(run.summary("drawn"))
     return run.status()
+
+
+def save(drawn, path, screen):
+    if path == "-":
+        screen.write(drawn)
+        return
+    try:
+        with open(path, "w", encoding="utf-8") as file:
+            file.write(drawn)
+    except OSError as error:
+        raise OSError(error.errno, error.strerror, path) from None
 
 
 def explain(arguments, screen):
@@ -198,6 +214,13 @@ def zone(name):
         raise argparse.ArgumentTypeError(f"no zone is known by the name {name}; such as Europe/Madrid, or local") from None
 
 
+def job_number(text):
+    try:
+        return whole(text, U32)
+    except ValueError as error:
+        raise argparse.ArgumentTypeError(f"{error} is expected") from None
+
+
 def processes(text):
     if not text.isdecimal() or not 1 <= int(text) <= MOST_PROCESSES:
         raise argparse.ArgumentTypeError(f"1 to {MOST_PROCESSES} is expected")
@@ -211,9 +234,9 @@ def notes():
 
 
 def parser():
-    whole = argparse.ArgumentParser(prog="desk", description=ABOUT, epilog=notes(), formatter_class=argparse.RawDescriptionHelpFormatter, allow_abbrev=False)
-    whole.set_defaults(jobs=1, zone=timezone.utc, format="table")
-    commands = whole.add_subparsers(required=True, metavar="COMMAND")
+    desk = argparse.ArgumentParser(prog="desk", description=ABOUT, epilog=notes(), formatter_class=argparse.RawDescriptionHelpFormatter, allow_abbrev=False)
+    desk.set_defaults(jobs=1, zone=timezone.utc, format="table")
+    commands = desk.add_subparsers(required=True, metavar="COMMAND")
 
     def command(name, does, said, zones=True, runs=True):
         added = commands.add_parser(name, help=said, description=f"{said[0].upper()}{said[1:]}.", epilog="desk --help tells what a job file holds.", allow_abbrev=False)
@@ -229,9 +252,9 @@ def parser():
     command("list", list_jobs, "list the intervals of each job").add_argument("--format", choices=FORMATS, default="table", help="for a person, a spreadsheet, a program, a calendar")
     command("check", check, "say whether each job is accepted, and why not", zones=False)
     command("draw", draw, "draw the intervals as a picture, SVG").add_argument("-o", dest="output", metavar="FILE.svg", default="-", help="where to; else to standard output")
-    command("explain", explain, "say what the list of a job promises").add_argument("--job", type=int, required=True, metavar="NUMBER", help="the job's number")
+    command("explain", explain, "say what the list of a job promises").add_argument("--job", type=job_number, required=True, metavar="NUMBER", help="the job's number")
     command("records", records, "write the orbit records, as bin/lists and bin/totals read them", zones=False, runs=False)
-    return whole
+    return desk
 
 
 def let_go():
@@ -255,8 +278,11 @@ def main():
         screen.say(error)
         status = NO_ANSWER
     except OSError as error:
-        screen.say(f"{error.filename or 'standard output'}: {error.strerror}")
+        screen.say(f"{'standard output' if error.filename is None else error.filename}: {error.strerror}")
         status = UNREADABLE
+    except Exception:  # so that no fault of the desk's own looks like a refusal
+        traceback.print_exc()
+        status = NO_ANSWER
     screen.clear()
     let_go()
     return status

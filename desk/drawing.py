@@ -1,5 +1,6 @@
 """Answers as a picture: a line for each job, a bar for each interval, marks at the bounds of its window, and days as the scale."""
 from datetime import datetime
+from datetime import time as time_of_day
 from html import escape
 
 from desk import utc, words
@@ -18,8 +19,8 @@ STEPS = [
     *(HOUR * n for n in (1, 2, 3, 6, 12)),
     *(DAY * n for n in (1, 2, 5, 7, 14)),
 ]
-MOST_LABELS, MOST_DAYS = 14, 62  # of which each has a line
-ORIGIN = datetime(1, 1, 1)
+MOST_LABELS, MOST_DAYS, DAYS_OF_ONE_YEAR = 12, 62, 300  # the most labels, the most days with a line each, and those that need no year in their labels
+ORIGIN, MIDNIGHT = datetime(1, 1, 1), time_of_day()
 STYLE = """text { font: 12px sans-serif; fill: #222 }
 .small { font-size: 11px; fill: #555 } .end { text-anchor: end } .middle { text-anchor: middle } .refused { fill: #b00020 }
 .even { fill: #f5f6f8 } .day { stroke: #9aa3ad } .mark { stroke: #d5d9de } .window { stroke: #777 } .bound { stroke: #333; stroke-width: 1.6 }
@@ -50,19 +51,23 @@ class Scale:
         return utc.of_civil(wall, self.zone) if self.dated else (wall - ORIGIN) // utc.MS
 
     def every(self, step):
-        """The instants on the scale at which such a clock shows a multiple of the step from midnight, and what it shows. What it leaves out, as when summer time begins, is left out."""
+        """The instants on the scale at which such a clock shows a multiple of the step from midnight, and what it shows. What it leaves out, as when summer time begins, is left out, but for a midnight."""
         step *= utc.MS
         first, last = self.wall(self.first), self.wall(self.last)
         begin = first - (first - first.replace(hour=0, minute=0, second=0, microsecond=0)) % step
+        before = None
         for k in range((last - begin) // step + 1):
             wall = begin + k * step
             at = self.of_wall(wall)
-            if self.first <= at <= self.last and self.wall(at) == wall:
+            if self.first <= at != before and (self.wall(at) == wall or wall.time() == MIDNIGHT):
                 yield at, wall
+                before = at
 
     def label(self, wall):
-        if wall.hour == wall.minute == wall.second == wall.microsecond == 0:
-            return f"{wall.day} {wall:%b}" if self.dated else f"day {(wall - ORIGIN).days}"
+        if wall.time() == MIDNIGHT and not self.dated:
+            return f"day {(wall - ORIGIN).days}"
+        if wall.time() == MIDNIGHT:
+            return f"{wall.day} {wall:%b}" if self.span <= DAYS_OF_ONE_YEAR * DAY else wall.date().isoformat()
         text = wall.isoformat(timespec="milliseconds")[11:]
         return text[:5] if self.step >= MINUTE else text[:8] if self.step >= SECOND else text[6:]
 
@@ -149,7 +154,7 @@ def row(job, answer, scale, middle, zone):
 
 
 def bar(job, interval, scale, middle, zone):
-    left, right = (scale.x(scale.instant(job, ms)) for ms in (interval.first, interval.last + 1))
+    left, right = (scale.x(scale.instant(job, ms)) for ms in (interval.first, min(interval.last + 1, job.end)))
     wide = round(max(right - left, THINNEST), 2)
     first, last = (words.moment(job, ms, zone) for ms in (interval.first, interval.last))
     tip = f"{first} to {last}, {words.clock(words.length(interval))}; begins {words.begins(job, interval)}, ends {words.ends(job, interval)}"

@@ -34,7 +34,7 @@ def both_ends(job, answer, zone):
         return "This list has no interval at all: the answer was no at every sample [at-samples]."
     first, last = answer.intervals[0], answer.intervals[-1]
     cut = ["the first begins at the window's start"] * bool(first.flags & BEGIN_FLAG) + ["the last ends at the window's end"] * bool(last.flags & END_FLAG)
-    by_window = f"; {' and '.join(cut)}, and is marked so [flags-are]" if cut else "; none is cut off by the window"
+    by_window = f"; {' and '.join(cut)}, as the flags say [flags-are]" if cut else "; none is cut off by the window"
     return f"Each interval is one record with its first and its last instant [record-bytes, in-order], down to the last one, {words.moment(job, last.first, zone)} to {words.moment(job, last.last, zone)}{by_window}."
 
 

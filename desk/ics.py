@@ -1,7 +1,7 @@
 """Answers as an iCalendar file (RFC 5545), an event for each interval.
 
 A calendar has whole seconds. Of a visible interval the event has the whole seconds inside it, so that no hour is sold that cannot be seen; of a hidden one those that it touches. The exact times are in
-the event's description. An event of no whole second has a beginning and no length.
+the event's description. Where that is no second at all, the event is the instant at which the second of the interval's first begins.
 """
 from datetime import datetime, timedelta, timezone
 from hashlib import sha256
@@ -31,10 +31,9 @@ def event(job, answer, interval, zone, made):
     inside = job.question == "visible"
     begin = second(job.epoch + interval.first, up=inside)
     end = second(job.epoch + interval.last + 1, up=not inside)
+    span = [f"DTSTART:{begin}", f"DTEND:{end}"] if begin < end else [f"DTSTART:{second(job.epoch + interval.first, up=False)}"]
     identity = sha256(job.record() + f"{job.epoch} {interval.first}".encode()).hexdigest()[:32]
-    yield from ("BEGIN:VEVENT", f"UID:{identity}@quechotzal", f"DTSTAMP:{made}", f"DTSTART:{begin}")
-    if begin < end:
-        yield f"DTEND:{end}"
+    yield from ("BEGIN:VEVENT", f"UID:{identity}@quechotzal", f"DTSTAMP:{made}", *span)
     yield from (f"SUMMARY:{text(f'job {job.number} {job.question}' + (f': {job.name}' if job.name else ''))}", f"DESCRIPTION:{text(exact)}", "END:VEVENT")
 
 

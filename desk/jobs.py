@@ -2,6 +2,7 @@
 import re
 from struct import pack
 from typing import NamedTuple, Optional
+from unicodedata import category
 
 from desk import columns, utc
 
@@ -62,7 +63,8 @@ def question(text):
 
 
 def name(text):
-    if not text.isprintable():
+    """A text that can be shown in a line; blanks of any width may be in it."""
+    if not all(sign.isprintable() or category(sign) == "Zs" for sign in text):
         raise ValueError("a line of printable UTF-8 text")
     return text
 

@@ -90,12 +90,14 @@ def told(job, interval, zone):
 # ---- JSON
 
 def structured(answers, zone):
-    """An array with an object for each job."""
-    before = "[\n"
+    """An array with an object for each job, a line each: one is held back until it is known whether a comma follows."""
+    before = ""
+    yield "[\n"
     for job, answer in answers:
-        yield before + json.dumps(outcome(job, answer, zone), ensure_ascii=False)
-        before = ",\n"
-    yield "[]\n" if before == "[\n" else "\n]\n"
+        if before:
+            yield before + ",\n"
+        before = json.dumps(outcome(job, answer, zone), ensure_ascii=False)
+    yield before + "\n" * bool(before) + "]\n"
 
 
 def outcome(job, answer, zone):

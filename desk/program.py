@@ -27,7 +27,10 @@ class Program:
     """One process of the program. What it says, as while it is built, goes to standard error."""
 
     def __init__(self):
-        self.process = subprocess.Popen([LISTS], stdin=subprocess.PIPE, stdout=subprocess.PIPE)
+        try:
+            self.process = subprocess.Popen([LISTS], stdin=subprocess.PIPE, stdout=subprocess.PIPE)
+        except OSError as error:
+            raise Failed(f"bin/lists cannot be run: {error.strerror}") from None
 
     def answers(self, jobs):
         """The answers to a batch."""

@@ -37,7 +37,7 @@ def is_header(names, complain):
     if len(wrong) >= len(NEEDED):
         wrong = [(None, f"a header with the columns {', '.join(NEEDED)}")]
     for name, expected in wrong:
-        complain(1, name, expected)
+        complain(1, name, expected, "" if name == "" else None)
     return not wrong
 
 

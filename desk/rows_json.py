@@ -8,7 +8,7 @@ TEXTS = {QUESTION.name, EPOCH.name, NAME.name}
 PIECE = 65_536  # characters
 LONGEST = 65_536  # of a text or a number
 NUMBERS_AS_WRITTEN = json.JSONDecoder(parse_int=str, parse_float=str, parse_constant=str)
-WHITE = " \t\r\n"
+WHITE, SIGNS = " \t\r\n", "{}[],:"
 TOKEN = re.compile(rf'[{WHITE}]*([{{}}\[\],:]|"(?:[^"\\\x00-\x1f]|\\.)*"|[^\s{{}}\[\],:"]+)')
 
 
@@ -17,14 +17,18 @@ class Unclear(Exception):
 
 
 class Tokens:
-    """The signs, texts and numbers of a JSON file, one after another; line is that of the last one. The end is an empty one."""
+    """The signs, texts and numbers of a JSON file, one after another; the end is an empty one. line is that of the last one, and column the member that is being read."""
 
     def __init__(self, text):
-        self.text, self.buffer, self.at, self.line, self.ended = text, "", 0, 1, False
+        self.text, self.buffer, self.at, self.ended = text, "", 0, False
+        self.line, self.column = 1, None
 
     def to(self, end):
         self.line += self.buffer.count("\n", self.at, end)
         self.at = end
+
+    def unclear(self, expected, found):
+        return Unclear(self.line, self.column, expected, found)
 
     def next(self):
         while True:
@@ -38,31 +42,41 @@ class Tokens:
             if self.ended and not rest:
                 return ""
             if self.ended or len(rest) > LONGEST:
-                raise Unclear(self.line, None, "JSON", rest)
+                raise self.unclear(f"a text in double quotes, on one line, or a number, of at most {LONGEST:,} characters", rest)
             piece = self.text.read(PIECE)
             self.buffer, self.at, self.ended = rest + piece, 0, not piece
 
-    def expect(self, signs, column=None):
+    def expect(self, *signs):
         token = self.next()
         if token not in signs:
-            raise Unclear(self.line, column, " or ".join(map(repr, signs)), token)
+            raise self.unclear(" or ".join(map(repr, signs)), token)
         return token
+
+    def value(self, expected, kinds=""):
+        """The next text, or number as it is written; and how it stands there. kinds has the signs that it may begin with, if not any."""
+        token = self.next()
+        try:
+            if not token or token in SIGNS or token[0] not in (kinds or token[0]):
+                raise ValueError
+            return str(NUMBERS_AS_WRITTEN.decode(token)), token
+        except ValueError:
+            raise self.unclear(expected, token) from None
 
 
 def json_rows(text, complain):
     """The objects of the array: their first line, and their members by name."""
     tokens = Tokens(text)
     try:
-        tokens.expect(["["])
-        sign = tokens.expect(["{", "]"])
+        tokens.expect("[")
+        sign = tokens.expect("{", "]")
         while sign == "{":
             line = tokens.line
             cells, good = members(tokens, complain)
             if good:
                 yield line, cells
-            sign = tokens.expect([",", "]"])
+            sign = tokens.expect(",", "]")
             if sign == ",":
-                sign = tokens.expect(["{"])
+                sign = tokens.expect("{")
         if tokens.next():
             raise Unclear(tokens.line, None, "the end of the file")
     except Unclear as unclear:
@@ -71,35 +85,21 @@ def json_rows(text, complain):
 
 def members(tokens, complain):
     """The members of an object that has begun, each with its line; and whether they are the columns, with the right kind of value. Where a column may be left out, null says so too."""
-    cells, good = {}, True
-    token = tokens.next()
-    if token == "}":
-        return cells, good
-    while True:
-        name = decoded(tokens, token, None)
-        tokens.expect([":"], name)
-        written = tokens.next()
-        value = decoded(tokens, written, name)
+    cells, good, sign = {}, True, ","
+    while sign == ",":
+        name, _ = tokens.value("a name in double quotes", '"')
+        tokens.column = name
+        tokens.expect(":")
+        value, written = tokens.value("a number or a text")
         if name not in NAMES or name in cells:
             complain(tokens.line, name, ONCE if name in NAMES else KNOWN)
             good = False
         elif written != "null" or name in NEEDED:
             good = fits(name, written, tokens.line, complain) and good
             cells[name] = tokens.line, value
-        if tokens.expect([",", "}"], name) == "}":
-            return cells, good
-        token = tokens.next()
-
-
-def decoded(tokens, token, column):
-    """A text's value, or a number as it is written."""
-    expected = "a name in double quotes" if column is None else "a number or a text"
-    try:
-        if not token or token in "{}[],:" or (column is None and token[0] != '"'):
-            raise ValueError
-        return str(NUMBERS_AS_WRITTEN.decode(token))
-    except ValueError:
-        raise Unclear(tokens.line, column, expected, token) from None
+        sign = tokens.expect(",", "}")
+        tokens.column = None
+    return cells, good
 
 
 def fits(name, written, line, complain):

@@ -20,6 +20,8 @@ EXPECTED = "a UTC instant such as 2026-11-16T06:30:00.000Z"
 PLAIN = [(date.fromisoformat(day) - BEGIN.date()).days * DAY + DAY for day in LEAPS]
 COUNTED = [midnight + SECOND * (before + 1) for before, midnight in enumerate(PLAIN)]
 
+END = COUNTED[-1] - PLAIN[-1] + (date(9999, 1, 1) - BEGIN.date()).days * DAY
+
 WRITTEN = re.compile(r"(\d{4}-\d\d-\d\d)[T ](\d\d:\d\d)(?::(\d\d)(?:\.(\d+))?)?(Z|[+-]\d\d:\d\d)", re.ASCII)
 
 
@@ -50,7 +52,7 @@ def read(text):
     ms = counted(plain) + SECOND * leap
     if leap and not in_leap_second(ms)[0]:
         raise ValueError("a UTC instant that there is (it had no leap second then)")
-    if not 1972 <= at.year <= 9998 or ms < 0:
+    if not 0 <= ms < END:
         raise ValueError("a UTC instant of the years 1972 to 9998")
     return ms
 

@@ -55,6 +55,14 @@ def moment(job, ms, zone=timezone.utc):
     return utc.shown(job.epoch + ms, zone).replace("T", " ")
 
 
+def bound(job, ms):
+    """A bound of a window that is refused, perhaps since it is no time at all: in milliseconds, and as a date and time where there is one."""
+    try:
+        return f"{ms} ms" if job.epoch is None else f"{moment(job, ms)} ({ms} ms from the epoch)"
+    except OverflowError:
+        return f"{ms} ms"
+
+
 def refusal(job, refused):
     """Why a job is refused: the columns at fault, what they hold, and what is accepted."""
     if refused.number in (3, 4):
@@ -64,6 +72,6 @@ def refusal(job, refused):
     axis, eccentricity, radius = (number(job.fields[k]) for k in (0, 1, 6))
     return {
         5: f"closest distance semimajor_axis_km * (1 - eccentricity) = {axis} * (1 - {eccentricity}) is not above planet_radius_km {radius}; accepted: above it",
-        6: f"window_start {job.start} ms and window_end {job.end} ms are no window; accepted: window_start {columns.START.accepted}, window_end {columns.END.accepted}",
+        6: f"window_start {bound(job, job.start)} and window_end {bound(job, job.end)} are no window; accepted: window_start {columns.START.accepted}, window_end {columns.END.accepted}",
         7: f"step_ms {job.step} does not suit a window of {job.end - job.start} ms; accepted: {columns.STEP.accepted}",
     }[refused.number]

@@ -141,7 +141,7 @@ def without_refused(answers, screen):
     """The lists alone; each refusal is told, since a calendar has no place for it."""
     for job, answer in answers:
         if isinstance(answer, Refused):
-            screen.say(f"job {job.number} is refused ({answer.number}): {words.refusal(job, answer)}")
+            screen.say(f"job {job.number} is {words.verdict(job, answer)}")
         else:
             yield job, answer
 
@@ -149,8 +149,7 @@ def without_refused(answers, screen):
 def check(arguments, screen):
     run = Run(arguments, screen)
     for job, answer in run.answers():
-        verdict = f"refused ({answer.number}): {words.refusal(job, answer)}" if isinstance(answer, Refused) else "accepted"
-        screen.write(f"job {job.number}: {verdict}\n")
+        screen.write(f"job {job.number}: {words.verdict(job, answer) if isinstance(answer, Refused) else 'accepted'}\n")
     screen.write(run.summary("accepted") + "\n")
     return run.status()
 
@@ -214,17 +213,16 @@ def zone(name):
         raise argparse.ArgumentTypeError(f"no zone is known by the name {name}; such as Europe/Madrid, or local") from None
 
 
-def job_number(text):
-    try:
-        return whole(text, U32)
-    except ValueError as error:
-        raise argparse.ArgumentTypeError(f"{error} is expected") from None
+def number(least, most):
+    """What reads a whole number."""
 
+    def read(text):
+        try:
+            return whole(text, most, least)
+        except ValueError as error:
+            raise argparse.ArgumentTypeError(f"{error} is expected") from None
 
-def processes(text):
-    if not text.isdecimal() or not 1 <= int(text) <= MOST_PROCESSES:
-        raise argparse.ArgumentTypeError(f"1 to {MOST_PROCESSES} is expected")
-    return int(text)
+    return read
 
 
 def notes():
@@ -243,7 +241,7 @@ def parser():
         added.add_argument("file", metavar="FILE", help="a job file, .csv or .json; - is standard input")
         added.add_argument("--input", choices=FORMS, help="what the file is, where its name does not tell")
         if runs:
-            added.add_argument("--jobs", type=processes, default=1, metavar="N", help="run N processes of the program side by side; the order stays")
+            added.add_argument("--jobs", type=number(1, MOST_PROCESSES), default=1, metavar="N", help="run N processes of the program side by side; the order stays")
         if zones:
             added.add_argument("--zone", type=zone, default=timezone.utc, metavar="NAME", help="show times in a zone such as Europe/Madrid, or local for this machine's; else UTC")
         added.set_defaults(does=does)
@@ -252,7 +250,7 @@ def parser():
     command("list", list_jobs, "list the intervals of each job").add_argument("--format", choices=FORMATS, default="table", help="for a person, a spreadsheet, a program, a calendar")
     command("check", check, "say whether each job is accepted, and why not", zones=False)
     command("draw", draw, "draw the intervals as a picture, SVG").add_argument("-o", dest="output", metavar="FILE.svg", default="-", help="where to; else to standard output")
-    command("explain", explain, "say what the list of a job promises").add_argument("--job", type=job_number, required=True, metavar="NUMBER", help="the job's number")
+    command("explain", explain, "say what the list of a job promises").add_argument("--job", type=number(0, U32), required=True, metavar="NUMBER", help="the job's number")
     command("records", records, "write the orbit records, as bin/lists and bin/totals read them", zones=False, runs=False)
     return desk
 

@@ -19,7 +19,7 @@ STEPS = [
     *(HOUR * n for n in (1, 2, 3, 6, 12)),
     *(DAY * n for n in (1, 2, 5, 7, 14)),
 ]
-MOST_LABELS, MOST_DAYS, DAYS_OF_ONE_YEAR = 12, 62, 300  # the most labels, the most days with a line each, and those that need no year in their labels
+MOST_LABELS, MOST_DAYS, DAYS_WITHOUT_YEAR = 12, 62, 300  # the most labels, the most days with a line each, and those that need no year in their labels
 ORIGIN, MIDNIGHT = datetime(1, 1, 1), time_of_day()
 STYLE = """text { font: 12px sans-serif; fill: #222 }
 .small { font-size: 11px; fill: #555 } .end { text-anchor: end } .middle { text-anchor: middle } .refused { fill: #b00020 }
@@ -67,7 +67,7 @@ class Scale:
         if wall.time() == MIDNIGHT and not self.dated:
             return f"day {(wall - ORIGIN).days}"
         if wall.time() == MIDNIGHT:
-            return f"{wall.day} {wall:%b}" if self.span <= DAYS_OF_ONE_YEAR * DAY else wall.date().isoformat()
+            return f"{wall.day} {wall:%b}" if self.span <= DAYS_WITHOUT_YEAR * DAY else wall.date().isoformat()
         text = wall.isoformat(timespec="milliseconds")[11:]
         return text[:5] if self.step >= MINUTE else text[:8] if self.step >= SECOND else text[6:]
 
@@ -141,7 +141,7 @@ def row(job, answer, scale, middle, zone):
     if job.name:
         yield text(92, base, cut(job.name, LONGEST_NAME), "", job.name)
     if isinstance(answer, Refused):
-        why = f"refused ({answer.number}): {words.refusal(job, answer)}"
+        why = words.verdict(job, answer)
         yield text(LABELS + 8, base, cut(why, LONGEST_REASON), "refused", why)
         return
     left, right = (scale.x(scale.instant(job, ms)) for ms in (job.start, job.end))
@@ -156,9 +156,8 @@ def row(job, answer, scale, middle, zone):
 def bar(job, interval, scale, middle, zone):
     left, right = (scale.x(scale.instant(job, ms)) for ms in (interval.first, min(interval.last + 1, job.end)))
     wide = round(max(right - left, THINNEST), 2)
-    first, last = (words.moment(job, ms, zone) for ms in (interval.first, interval.last))
-    tip = f"{first} to {last}, {words.clock(words.length(interval))}; begins {words.begins(job, interval)}, ends {words.ends(job, interval)}"
-    return f'<rect x="{left}" y="{middle - BAR / 2}" width="{wide}" height="{BAR}" class="{job.question}"><title>{escape(tip)}</title></rect>\n'
+    tip = escape(words.described(job, interval, zone))
+    return f'<rect x="{left}" y="{middle - BAR / 2}" width="{wide}" height="{BAR}" class="{job.question}"><title>{tip}</title></rect>\n'
 
 
 def cut(content, most):

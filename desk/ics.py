@@ -3,38 +3,33 @@
 A calendar has whole seconds. Of a visible interval the event has the whole seconds inside it, so that no hour is sold that cannot be seen; of a hidden one those that it touches. The exact times are in
 the event's description. Where that is no second at all, the event is the instant at which the second of the interval's first begins.
 """
-from datetime import datetime, timedelta, timezone
+from datetime import datetime, timezone
 from hashlib import sha256
 
 from desk import utc, words
 from desk.listing import counts
-from desk.program import Refused
-
-SECOND = timedelta(seconds=1)
 
 
 def calendar(answers, zone):
-    """The calendar's lines. Times are in UTC, which calendars show as local ones; the description has them in the zone."""
+    """The calendar's lines, of jobs that are listed. Times are in UTC, which calendars show as local ones; the description has them in the zone."""
     made = f"{datetime.now(timezone.utc):%Y%m%dT%H%M%SZ}"
     yield lines("BEGIN:VCALENDAR", "VERSION:2.0", "PRODID:-//Quechotzal//desk//EN")
     for job, answer in answers:
-        if not isinstance(answer, Refused):
-            for interval in answer.intervals:
-                yield lines(*event(job, answer, interval, zone, made))
+        for interval in answer.intervals:
+            yield lines(*event(job, answer, interval, zone, made))
     yield lines("END:VCALENDAR")
 
 
 def event(job, answer, interval, zone, made):
     """The same interval of the same record and epoch has the same identifier, so that a calendar that is read in again has no event twice."""
-    first, last = (words.moment(job, ms, zone) for ms in (interval.first, interval.last))
-    exact = f"{first} to {last}, {words.clock(words.length(interval))}; begins {words.begins(job, interval)}, ends {words.ends(job, interval)}; the list has {counts(answer)}"
+    exact = f"{words.described(job, interval, zone)}; the list has {counts(answer)}"
     inside = job.question == "visible"
     begin = second(job.epoch + interval.first, up=inside)
     end = second(job.epoch + interval.last + 1, up=not inside)
     span = [f"DTSTART:{begin}", f"DTEND:{end}"] if begin < end else [f"DTSTART:{second(job.epoch + interval.first, up=False)}"]
     identity = sha256(job.record() + f"{job.epoch} {interval.first}".encode()).hexdigest()[:32]
-    yield from ("BEGIN:VEVENT", f"UID:{identity}@quechotzal", f"DTSTAMP:{made}", *span)
-    yield from (f"SUMMARY:{text(f'job {job.number} {job.question}' + (f': {job.name}' if job.name else ''))}", f"DESCRIPTION:{text(exact)}", "END:VEVENT")
+    summary = f"job {job.number} {job.question}" + f": {job.name}" * bool(job.name)
+    return "BEGIN:VEVENT", f"UID:{identity}@quechotzal", f"DTSTAMP:{made}", *span, f"SUMMARY:{text(summary)}", f"DESCRIPTION:{text(exact)}", "END:VEVENT"
 
 
 def second(ms, up):

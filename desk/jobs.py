@@ -34,10 +34,10 @@ def number(text):
     return float(text)
 
 
-def whole(text, most, expected="a whole number"):
-    """A whole number that its place in the record can hold."""
-    if not WHOLE.fullmatch(text) or int(text) > most:
-        raise ValueError(f"{expected} from 0 to {most:,}")
+def whole(text, most, least=0):
+    """A whole number, no more than its place in the record can hold."""
+    if not WHOLE.fullmatch(text) or not least <= int(text) <= most:
+        raise ValueError(f"a whole number from {least} to {most:,}")
     return int(text)
 
 

@@ -20,7 +20,7 @@ def table(answers, zone):
         if wide != before:
             yield line(wide, *HEAD)
         if isinstance(answer, Refused):
-            yield f"{job.number:<10}  refused ({answer.number}): {words.refusal(job, answer)}{called(job)}\n\n"
+            yield f"{job.number:<10}  {words.verdict(job, answer)}{called(job)}\n\n"
             continue
         for interval in answer.intervals:
             yield line(wide, job.number, *cells(job, interval, zone))

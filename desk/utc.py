@@ -19,7 +19,7 @@ EXPECTED = "a UTC instant such as 2026-11-16T06:30:00.000Z"
 # The midnights behind the leap seconds, in milliseconds as a clock without leap seconds counts them, and as they are.
 PLAIN = [(date.fromisoformat(day) - BEGIN.date()).days * DAY + DAY for day in LEAPS]
 COUNTED = [midnight + SECOND * (before + 1) for before, midnight in enumerate(PLAIN)]
-
+# The year 9999 is not read, so that a window of 31 days has a date everywhere.
 END = COUNTED[-1] - PLAIN[-1] + (date(9999, 1, 1) - BEGIN.date()).days * DAY
 
 WRITTEN = re.compile(r"(\d{4}-\d\d-\d\d)[T ](\d\d:\d\d)(?::(\d\d)(?:\.(\d+))?)?(Z|[+-]\d\d:\d\d)", re.ASCII)

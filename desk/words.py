@@ -55,12 +55,22 @@ def moment(job, ms, zone=timezone.utc):
     return utc.shown(job.epoch + ms, zone).replace("T", " ")
 
 
+def described(job, interval, zone):
+    """An interval in a line: its ends, its length, and why it begins and ends."""
+    first, last = (moment(job, ms, zone) for ms in (interval.first, interval.last))
+    return f"{first} to {last}, {clock(length(interval))}; begins {begins(job, interval)}, ends {ends(job, interval)}"
+
+
 def bound(job, ms):
     """A bound of a window that is refused, perhaps since it is no time at all: in milliseconds, and as a date and time where there is one."""
     try:
         return f"{ms} ms" if job.epoch is None else f"{moment(job, ms)} ({ms} ms from the epoch)"
     except OverflowError:
         return f"{ms} ms"
+
+
+def verdict(job, refused):
+    return f"refused ({refused.number}): {refusal(job, refused)}"
 
 
 def refusal(job, refused):

@@ -1,9 +1,11 @@
 // Angles: one turn is 2^32 units, and what passes a turn is taken off.
+#![tactic(auto)]
+
 ghost use Rattle.std.specs.Prelude.{◌≡◌};
 ghost use Rattle.nearest.specs.Nearest.{UpTo};
 ghost use Rattle.angle.specs.Turn.{negate_of, add_of, degrees_of};
 
-#[derive(Drop)]
+#[derive(Clone, Copy)]
 pub struct Angle {
     pub units: u32,
 }

@@ -17,7 +17,7 @@ use job::Admission;
 use refusal::Refusal;
 
 // How many days were written, or why none was: the job's own refusal, 11 or 12.
-#[derive(Drop)]
+#[derive(Clone, Copy)]
 pub enum Totals {
     Written { days: usize },
     Job(Refusal),
@@ -26,7 +26,7 @@ pub enum Totals {
 }
 
 // The refusal's number or 0, the field that offends or 0, the bits of the number that is handed back, and how many days were written.
-#[derive(Drop)]
+#[derive(Clone, Copy)]
 pub struct Numbers {
     pub refusal: u32,
     pub field: u32,
@@ -35,7 +35,7 @@ pub struct Numbers {
 }
 
 // Where an interval behind a good list may begin, or that the list is bad.
-#[derive(Drop)]
+#[derive(Clone, Copy)]
 enum Worked {
     Ordered { next: u64 },
     Bad,
@@ -252,7 +252,7 @@ fn summary_in(w: Window, list: &[u8], out: &mut [u8]) -> Totals
     match work_out(w, list, &mut own) {
         Worked::Bad => Totals::BadList,
         Worked::Ordered { next: _ } => {
-            bytes::copy(&own[..used], out);
+            out[..used].copy_from_slice(&own[..used]);
             Totals::Written { days: n }
         }
     }

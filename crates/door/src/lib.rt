@@ -15,7 +15,7 @@ const TOLD: u32 = 1;
 const UNHEARD: u32 = 0;
 
 // What a caller is told beside the list or the summary.
-#[derive(Drop)]
+#[derive(Clone, Copy)]
 pub struct Answer {
     pub refusal: u32,
     pub field: u32,

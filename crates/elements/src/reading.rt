@@ -8,7 +8,7 @@ use crate::fields::{field, float, turn};
 use refusal::{Refusal, Verdict, row, then};
 
 // The thirteen fields as floats: km, degrees and seconds, as they stand in the record.
-#[derive(Drop)]
+#[derive(Clone, Copy)]
 pub struct Elements {
     pub axis: f64,
     pub eccentricity: f64,
@@ -26,7 +26,7 @@ pub struct Elements {
 }
 
 // What a record reads as.
-#[derive(Drop)]
+#[derive(Clone, Copy)]
 pub enum Reading {
     Read(Elements),
     Refused(Refusal),

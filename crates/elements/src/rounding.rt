@@ -7,7 +7,7 @@ use crate::reading::Elements;
 use angle::Angle;
 
 // Lengths in metres, the period in milliseconds, e in units of 2^-30.
-#[derive(Drop)]
+#[derive(Clone, Copy)]
 pub struct Wholes {
     pub axis: u32,
     pub eccentricity: u32,

@@ -14,7 +14,7 @@ use halving::Edge;
 use interval::Interval;
 
 // A job's number, and its window and step in ms.
-#[derive(Drop)]
+#[derive(Clone, Copy)]
 pub struct Window {
     pub job: u32,
     pub t0: u64,
@@ -23,7 +23,7 @@ pub struct Window {
 }
 
 // How many intervals the list has, and how many instants were asked.
-#[derive(Drop)]
+#[derive(Clone, Copy)]
 pub struct Found {
     pub intervals: usize,
     pub asked: u64,
@@ -31,7 +31,7 @@ pub struct Found {
 
 // The finder has come to the sample `at`, which answered `was`; where that is yes, the open interval began at `first`, with the flags `begun`.
 // So far it wrote `count` intervals and asked `asked` instants.
-#[derive(Drop)]
+#[derive(Clone, Copy)]
 struct State {
     pub at: u64,
     pub was: bool,

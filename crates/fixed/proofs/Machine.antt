@@ -47,7 +47,7 @@ back h t = (operand h t).is
 
 -- a call's result, read back from its range
 pub got : (z : ℤ) → mag z < 2 ^ 63 → loc z ≡ z
-got z h = to_z-of_z (record { sfits = h })
+got z h = to_z-of_z {w = w64} (record { sfits = h })
 
 -- what a test of a local against a number tells of what the local holds
 pub told : {z : ℤ} {t : Bool} (k : ℤ) → SFits w64 z → lt_z (loc z) k ≡ t → lt_z z k ≡ t

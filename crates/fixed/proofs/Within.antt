@@ -71,6 +71,7 @@ floor-within {z} d n h p k = record { within = abs-floor z d n p (le_trans h.wit
 
 -- no quotient is further from 0 than what is divided
 pub quotient-within : {z : ℤ} {m : ℕ} (d : ℕ) → Within z m → 0 < d → Within (floor_div_of z d) m
+quotient-within {z = z} {m = m} zero h p = elim p [ ]
 quotient-within {m = m} (suc d) h p = floor-within (suc d) m h p (omega arith)
 
 pub scaled-within : {a b : ℤ} {m n : ℕ} (k : ℕ) → Within a m → Within b n → m * n ≤ k * one → Within (a ∘ b) k

@@ -1,4 +1,6 @@
 // Signed fixed-point arithmetic, exact toward minus infinity, and the whole square root.
+#![tactic(auto)]
+
 ghost use Rattle.std.specs.Prelude.{◌≡◌, ◌*◌, T, ◌*ℤ◌};
 ghost use Rattle.std.specs.Int.Signed.{non_neg};
 ghost use Rattle.std.specs.Int.{w64};

@@ -1,4 +1,6 @@
 // The answer at one instant, from whole numbers to yes or no, and what tells why. `t` is the sine table, lent.
+#![tactic(auto)]
+
 ghost use Rattle.std.specs.Prelude.{◌≡◌};
 ghost use Rattle.fixed.specs.Within.{Within};
 ghost use Rattle.sine.specs.Sine.{sines};
@@ -15,7 +17,7 @@ use elements::rounding::Wholes;
 use rotation::Turn;
 
 // The ellipse, and the planet in it: a, e, a∘q, the period and R².
-#[derive(Drop)]
+#[derive(Clone, Copy)]
 pub struct Ellipse {
     pub axis: i64,
     pub eccentricity: u32,
@@ -25,7 +27,7 @@ pub struct Ellipse {
 }
 
 // The far body: Ep, Eq and E.
-#[derive(Drop)]
+#[derive(Clone, Copy)]
 pub struct Body {
     pub p: i64,
     pub q: i64,
@@ -33,7 +35,7 @@ pub struct Body {
 }
 
 // The station: its latitude, its right ascension at the epoch, and the sine of the least elevation.
-#[derive(Drop)]
+#[derive(Clone, Copy)]
 pub struct Station {
     pub latitude: Turn,
     pub meridian: Angle,
@@ -41,7 +43,7 @@ pub struct Station {
 }
 
 // What is fixed for a job.
-#[derive(Drop)]
+#[derive(Clone, Copy)]
 pub struct Orbit {
     pub ellipse: Ellipse,
     pub body: Body,
@@ -49,14 +51,14 @@ pub struct Orbit {
 }
 
 // X and Y, in metres.
-#[derive(Drop)]
+#[derive(Clone, Copy)]
 pub struct Place {
     pub x: i64,
     pub y: i64,
 }
 
 // What tells why at an instant: whether the planet hides the far body, and whether the planet is up.
-#[derive(Drop)]
+#[derive(Clone, Copy)]
 pub struct Sight {
     pub hidden: bool,
     pub up: bool,

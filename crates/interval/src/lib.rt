@@ -1,10 +1,12 @@
 // The interval record: 24 bytes, job, flags, first and last, each with its least byte first.
+#![tactic(auto)]
+
 ghost use Rattle.std.specs.Prelude.{◌≡◌};
 ghost use Rattle.words.specs.Little.{Holds};
 ghost use Rattle.interval.specs.Record.{write_of, parsed_of};
 
 // An interval of a list, both of whose instants belong to it; or what closes a job's intervals.
-#[derive(Drop)]
+#[derive(Clone, Copy)]
 pub struct Interval {
     pub job: u32,
     pub flags: u32,
@@ -13,7 +15,7 @@ pub struct Interval {
 }
 
 // What bytes read as.
-#[derive(Drop)]
+#[derive(Clone, Copy)]
 pub enum Parsed {
     Record(Interval),
     NoRecord,

@@ -16,14 +16,14 @@ use interval::Interval;
 use refusal::{Refusal, Verdict, row, then};
 
 // The number of intervals and of instants asked, or why the job is turned away.
-#[derive(Drop)]
+#[derive(Clone, Copy)]
 pub enum Outcome {
     Listed { intervals: usize, asked: u64 },
     Refused(Refusal),
 }
 
 // The window of a record that every row but 9 lets through, or why it is turned away.
-#[derive(Drop)]
+#[derive(Clone, Copy)]
 pub enum Admission {
     Admitted(Window),
     TurnedAway(Refusal),

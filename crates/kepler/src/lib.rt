@@ -34,7 +34,7 @@ const ALL: u32 = 32;
 const FEWEST: u32 = 4;
 
 // The two ends of a search.
-#[derive(Drop)]
+#[derive(Clone, Copy)]
 struct Bracket {
     low: u64,
     high: u64,

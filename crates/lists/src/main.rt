@@ -14,7 +14,7 @@ const RECORD: usize = 136;
 const ROOM: usize = 49200;
 
 // How many pieces were replied to, and in how many bytes.
-#[derive(Drop)]
+#[derive(Clone, Copy)]
 struct Batch {
     pieces: usize,
     used: usize,

@@ -1,5 +1,7 @@
 // The nearest whole number to a float times p / q. The exact size of a float is read off its bits: digits over a power of two.
 // The doubled product is floored, and then halved upward.
+#![tactic(auto)]
+
 ghost use Rattle.std.specs.Prelude.{◌≡◌, ◌+◌, ◌/◌, ◌^◌};
 ghost use Rattle.nearest.specs.Nearest.{nearest_of, metres_of, milliseconds_of, eccentricity_of, units_of, UpTo};
 ghost use Rattle.nearest.specs.Pattern.{digits_of, shift_of, ByShift};

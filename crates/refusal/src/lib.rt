@@ -1,4 +1,6 @@
 // Why a job is turned away: a variant for each row of the table, and the first of several rows that applies.
+#![tactic(auto)]
+
 ghost use Rattle.std.specs.Prelude.{◌≡◌};
 ghost use Rattle.std.specs.Float.{binary64};
 ghost use Rattle.std.specs.Float.Ieee.{to_bits};
@@ -6,7 +8,7 @@ ghost use Rattle.refusal.specs.Refusal.{number_of, field_of, value_of, bits_of};
 ghost use Rattle.refusal.specs.Rows.{when, ◌then◌};
 
 // Refusal 3 has the field's own bits beside its float: as a float a NaN is just a NaN.
-#[derive(Drop)]
+#[derive(Clone, Copy)]
 pub enum Refusal {
     Length,
     Word,
@@ -20,7 +22,7 @@ pub enum Refusal {
 }
 
 // What one row says.
-#[derive(Drop)]
+#[derive(Clone, Copy)]
 pub enum Verdict {
     Passed,
     Refused(Refusal),

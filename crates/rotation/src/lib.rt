@@ -9,7 +9,7 @@ use angle::Angle;
 use fixed::unit;
 
 // The cosine and the sine of one angle, in units of 2^-30.
-#[derive(Drop)]
+#[derive(Clone, Copy)]
 pub struct Turn {
     pub cos: i64,
     pub sin: i64,

@@ -1,5 +1,7 @@
 // The sine of an angle, read between the entries of a quarter-wave table. The table is handed out once and lent as `t`: an
 // indexed constant would be copied at every read.
+#![tactic(auto)]
+
 ghost use Rattle.std.specs.Prelude.{◌≡◌};
 ghost use Rattle.sine.specs.Sine.{IsEntry, entry_at, sines, fold_of, OnTheWay, way_of, InQuarter, reading_of, sine_of, cosine_of};
 

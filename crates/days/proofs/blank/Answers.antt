@@ -1,0 +1,27 @@
+use Prim.Native.Nat.{◌-◌}
+use mathlib.Core.Path.{◌≡◌, refl}
+use native.Mathlib.Omega.{arith}
+use Rattle.days.specs.Days.{day_of}
+use Rattle.days.specs.Summary.{records_from, summary_of}
+use Rattle.days.proofs.Records.{none_more}
+use borrow.Author.Rules.{rules}
+use Rattle.days.proofs.blank.Goals as goal
+
+pub loop-i-init : goal.loop-i-init
+unfolding records_from
+loop-i-init c = (refl, omega arith, refl)
+
+pub put_day-requires : goal.put_day-requires
+put_day-requires c =
+    let room = c.requires.room in
+    let n = c.days-n.ensures in
+    omega (arith, room, n)
+
+pub loop-i-preserved : goal.loop-i-preserved
+loop-i-preserved c = (search rules, search rules, none_more _ _ _ c.loop-i.invariant.2 c.put_day.ensures)
+
+pub returns : goal.returns
+unfolding summary_of day_of
+returns c =
+    let all : c.loop-i.i ≡ c.days-n.result = omega arith in
+    rw (all, c.days-n.ensures) at c.loop-i.invariant.2

@@ -1,0 +1,13 @@
+-- `finder::close` meets its contract: by the answer at the last sample.
+use Rattle.finder.proofs.Advanced.{last-room, last_yes, last_no}
+use native.Mathlib.Omega.{arith}
+use Rattle.finder.proofs.close.Goals as goal
+
+pub put-requires : goal.put-requires
+put-requires c = (last-room c.args.w c.args.s c.args.out.now c.if-s.true c.requires.0, omega (arith, c.requires.1))
+
+pub returns-then-s : goal.returns-then-s
+returns-then-s c = last_yes c.args.w c.args.s c.if-s.true _ _ c.put.ensures
+
+pub returns : goal.returns
+returns c = last_no c.args.w c.args.s c.if-s.false _

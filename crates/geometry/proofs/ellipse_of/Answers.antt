@@ -1,0 +1,24 @@
+-- `geometry::ellipse_of` meets its contract, field by field.
+use mathlib.Core.Path.{◌≡◌, ◌∙◌}
+use Prim.Native.Nat.{ℕ}
+use native.Mathlib.Nat.{mul-le-mul}
+use native.Mathlib.Omega.{arith}
+use lib.IntN.{ℤ}
+use Rattle.fixed.proofs.Machine.{cast, got}
+use Rattle.geometry.specs.declared.Ellipse.{Ellipse}
+use Rattle.geometry.specs.Prepared.{ellipse_of}
+use Rattle.geometry.proofs.ellipse_of.Goals as goal
+
+fields : {a b v w : ℤ} {e p r : ℕ} → a ≡ v → b ≡ w
+    → ◌≡◌ {A = Ellipse} (record { axis = a; eccentricity = e; minor = b; period = p; radius2 = r })
+    (record { axis = v; eccentricity = e; minor = w; period = p; radius2 = r })
+fields e f = cc
+
+pub overflow_mul-result : goal.overflow_mul-result
+overflow_mul-result c = omega (arith, mul-le-mul c.requires.radius c.requires.radius)
+
+pub returns : goal.returns
+unfolding ellipse_of
+returns c =
+    let part = c.minor in
+    fields (cast c.requires.axis tt).is (got part.result part.type_inv ∙ part.ensures)

@@ -1,5 +1,7 @@
 // Place in the orbit: the mean anomaly M of an instant, and the eccentric anomaly E of it by Kepler's equation, searched by
 // halving. Most of the halvings are left out, since a guess foretells them. `t` is the sine table, lent.
+#![tactic(auto)]
+
 ghost use Rattle.std.specs.Prelude.{◌≡◌, true};
 ghost use Rattle.halving.specs.Foretold.{YesUpTo, NoFrom};
 ghost use Rattle.fixed.specs.Within.{Is};

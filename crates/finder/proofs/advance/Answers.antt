@@ -7,16 +7,19 @@ use Rattle.finder.proofs.Flags.{bits_most}
 use Rattle.finder.proofs.Advanced.{Parted, stays, turned, begins, ends-room, ends}
 use borrow.Author.Rules.{rules}
 use Rattle.finder.proofs.advance.Goals as goal
+use Rattle.finder.proofs.advance.Goals.{After-halve-e}
 
 -- what is known where the ends differ
-parted : (found : goal.After-halve-e) →
+parted : (found : After-halve-e) →
     let a = found.args in
-    Parted (answer_at a.o a.question) (sight_at a.o a.question) a.w a.s a.b a.out-1.now found.answer-yes.result found.halve-e.result
+    Parted (answer_at a.o a.question) (sight_at a.o a.question) a.w a.s a.b a.out.now found.answer-yes.result found.halve-e.result
 parted found =
-    record { along = found.requires.1; at_b = found.answer-yes.ensures; found = found.if-yes-s.false; found = found.halve-e.ensures }
+    record { along = found.requires.1; at_b = found.answer-yes.ensures; apart = found.if-yes-s.false; found = found.halve-e.ensures }
 
 pub returns-then-yes-s : goal.returns-then-yes-s
-returns-then-yes-s c = stays c.requires.1 c.answer-yes.ensures c.if-yes-s.true
+returns-then-yes-s c =
+    let made = stays c.requires.1 c.answer-yes.ensures c.if-yes-s.true in
+    record { value = made.0; out_after = made.1 }
 
 pub overflow_add-asked-2 : goal.overflow_add-asked-2
 overflow_add-asked-2 c =
@@ -27,7 +30,9 @@ pub why-flags-requires : goal.why-flags-requires
 why-flags-requires c = (c.requires.0, turned (parted (goal.at.why-flags-requires c).After-halve-e))
 
 pub returns-then-yes : goal.returns-then-yes
-returns-then-yes c = begins (parted (goal.at.returns-then-yes c).After-halve-e) c.why-flags.ensures c.if-yes.true
+returns-then-yes c =
+    let made = begins (parted (goal.at.returns-then-yes c).After-halve-e) c.why-flags.ensures c.if-yes.true in
+    record { value = made.0; out_after = made.1 }
 
 pub overflow_mul-flags : goal.overflow_mul-flags
 overflow_mul-flags c = omega (arith, bits_most _ 4 8 _ _ c.why-flags.ensures)
@@ -39,4 +44,6 @@ pub overflow_add-result-2 : goal.overflow_add-result-2
 overflow_add-result-2 c = search (rules, c.requires.1.room)
 
 pub returns : goal.returns
-returns c = ends (parted (goal.at.returns c).After-halve-e) c.why-flags.ensures c.if-yes.false c.put.ensures
+returns c =
+    let made = ends (parted (goal.at.returns c).After-halve-e) c.why-flags.ensures c.if-yes.false c.put.ensures in
+    record { value = made.0; out_after = made.1 }

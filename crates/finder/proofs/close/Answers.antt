@@ -7,7 +7,11 @@ pub put-requires : goal.put-requires
 put-requires c = (last-room c.args.w c.args.s c.args.out.now c.if-s.true c.requires.0, omega (arith, c.requires.1))
 
 pub returns-then-s : goal.returns-then-s
-returns-then-s c = last_yes c.args.w c.args.s c.if-s.true _ _ c.put.ensures
+returns-then-s c =
+    let made = last_yes c.args.w c.args.s c.if-s.true c.args.out.now c.put.new.out c.put.ensures in
+    record { value = made.0; out_after = made.1 }
 
 pub returns : goal.returns
-returns c = last_no c.args.w c.args.s c.if-s.false _
+returns c =
+    let made = last_no c.args.w c.args.s c.if-s.false c.args.out.now in
+    record { value = made.0; out_after = made.1 }

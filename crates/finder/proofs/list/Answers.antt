@@ -18,7 +18,7 @@ advance-s-requires c =
     (c.requires.0, going_along c.requires.1 c.loop-left.invariant c.loop-left-test.true c.requires.2 b.result b.ensures)
 
 pub loop-left-preserved : goal.loop-left-preserved
-loop-left-preserved c = going_on c.requires.1 c.loop-left.invariant c.loop-left-test.true _ _ c.sample-b.result c.sample-b.ensures c.advance-s.ensures.0 c.advance-s.ensures.1
+loop-left-preserved c = going_on c.requires.1 c.loop-left.invariant c.loop-left-test.true _ _ c.sample-b.result c.sample-b.ensures c.advance-s.ensures.value c.advance-s.ensures.out_after
 
 pub close-requires : goal.close-requires
 close-requires c =
@@ -29,7 +29,8 @@ close-requires c =
 
 pub returns : goal.returns
 returns c =
-    let good = c.requires.1 in (
-      c.close.ensures.0 ∙ end-found good c.loop-left.invariant c.loop-left-test.false,
-      end_out good c.loop-left.invariant c.loop-left-test.false _ c.close.ensures.1,
-    )
+    let good = c.requires.1 in
+    record {
+      value = c.close.ensures.value ∙ end-found good c.loop-left.invariant c.loop-left-test.false;
+      out_after = end_out good c.loop-left.invariant c.loop-left-test.false _ c.close.ensures.out_after;
+    }

@@ -7,8 +7,9 @@ use Rattle.halving.specs.Foretold.{cell_of}
 use Rattle.kepler.specs.declared.Bracket.{Bracket}
 use Rattle.kepler.proofs.Shortcut.{shifted, cell_in_turn}
 use Rattle.kepler.proofs.cell.Goals as goal
+use Rattle.kepler.proofs.cell.Goals.{Start}
 
-low-is : (c : goal.Start) → c.args.g / 2 ^ c.args.s * 2 ^ c.args.s % 2 ^ 64 ≡ cell_of c.args.g c.args.s
+low-is : (c : Start) → c.args.g / 2 ^ c.args.s * 2 ^ c.args.s % 2 ^ 64 ≡ cell_of c.args.g c.args.s
 low-is c = omega (arith, div-mul-le_self c.args.g (2 ^ c.args.s))
 
 same_ends : {l m h k : ℕ} → l ≡ m → h ≡ k → ◌≡◌ {A = Bracket} (record { low = l; high = h }) (record { low = m; high = k })

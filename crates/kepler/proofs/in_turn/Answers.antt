@@ -11,12 +11,13 @@ use Rattle.fixed.proofs.Machine.{loc}
 use Rattle.fixed.proofs.Mirrored.{test_non_neg}
 use Rattle.angle.specs.Turn.{turn}
 use Rattle.kepler.proofs.in_turn.Goals as goal
+use Rattle.kepler.proofs.in_turn.Goals.{Else-anomaly-gt-LAST}
 
 below : (last : ℕ) (z : ℤ) → last < turn → T (non_neg z) → lt_z (pos last) z ≡ false → nat_abs z < turn
 below last (pos n) h t e = omega (arith, ltb-false last n e)
 below last (negsuc n) h t e = absurd t
 
-inside : (c : goal.Else-anomaly-gt-LAST) → let z = loc c.args.anomaly in T (non_neg z) × (nat_abs z < turn)
+inside : (c : Else-anomaly-gt-LAST) → let z = loc c.args.anomaly in T (non_neg z) × (nat_abs z < turn)
 inside c =
     let z = loc c.args.anomaly in
     let t = test_non_neg z c.if-anomaly-lt0.false in

@@ -1,9 +1,9 @@
 -- `kepler::mean` meets its contract: each signed number on the way fits, and is the definition's.
-use mathlib.Core.Path.{refl}
+use mathlib.Core.Path.{◌≡◌, refl}
 use Prim.Native.Nat.{ℕ, ◌%◌}
 use native.Mathlib.Nat.{le_trans}
 use lib.Dec.{lit≤}
-use lib.IntN.{pos, ◌-ℤ◌}
+use lib.IntN.{ℤ, pos, ◌-ℤ◌}
 use mir.Syntax.{w64}
 use mir.Val.{to_z}
 use Rattle.fixed.specs.Scaled.{one, ◌∘◌}
@@ -14,28 +14,29 @@ use Rattle.sine.specs.Sine.{sine_of}
 use Rattle.sine.proofs.Laws.{sine-small}
 use Rattle.kepler.specs.Kepler.{Eccentricity, radian, K, most_mean}
 use Rattle.kepler.proofs.mean.Goals as goal
+use Rattle.kepler.proofs.mean.Goals.{After-unit}
 
 -- e, sin E, e∘sin E and K(E), as the machine holds them
 e-is : (e : ℕ) → Eccentricity e → Is (to_z w64 e) (pos e) one
 e-is e h = cast (le_trans h (lit≤ tt)) tt
 
-sine-is : (c : goal.After-sine) → Is (loc c.sine.result) (sine_of (c.args.anomaly % turn)) one
-sine-is c = held (called c.sine.ensures (sine-small (c.args.anomaly % turn))) tt
+sine-is : {r : ℤ} (E : ℕ) → r ≡ sine_of (E % turn) → Is (loc r) (sine_of (E % turn)) one
+sine-is E h = held (called h (sine-small (E % turn))) tt
 
-shift_is : (c : goal.After-unit-es) → Is (loc c.unit-es.result) (pos c.args.e ∘ sine_of (c.args.anomaly % turn)) one
-shift_is c =
-    held (unit-is c.unit-es.ensures (e-is c.args.e c.requires.1).is (sine-is c).is) tt
+shift_is : {r s : ℤ} (e E : ℕ) → Eccentricity e → r ≡ sine_of (E % turn) → Is s (to_z w64 e ∘ loc r) one → Is (loc s) (pos e ∘ sine_of (E % turn)) one
+shift_is e E ok h k = held (unit-is k (e-is e ok).is (sine-is E h).is) tt
 
-mean-is : (c : goal.After-unit)
+mean-is : (c : After-unit)
     → Is (to_z w64 c.args.anomaly -ℤ loc c.unit.result) (pos c.args.anomaly -ℤ (pos c.args.e ∘ sine_of (c.args.anomaly % turn) ∘ pos radian)) most_mean
 mean-is c =
-    difference (cast c.requires.2 tt) (held (unit-is c.unit.ensures (shift_is c).is refl) tt)
+    let shift = shift_is c.args.e c.args.anomaly c.requires.1 c.sine.ensures c.unit-es.ensures in
+    difference (cast c.requires.2 tt) (held (unit-is c.unit.ensures shift.is refl) tt)
 
 pub unit-es-requires : goal.unit-es-requires
-unit-es-requires c = ((e-is c.args.e c.requires.1).bound, (sine-is (goal.at.unit-es-requires c).After-sine).bound)
+unit-es-requires c = ((e-is c.args.e c.requires.1).bound, (sine-is c.args.anomaly c.sine.ensures).bound)
 
 pub unit-requires : goal.unit-requires
-unit-requires c = ((shift_is (goal.at.unit-requires c).After-unit-es).bound, record { within = lit≤ tt })
+unit-requires c = ((shift_is c.args.e c.args.anomaly c.requires.1 c.sine.ensures c.unit-es.ensures).bound, record { within = lit≤ tt })
 
 pub overflow_sub-result : goal.overflow_sub-result
 overflow_sub-result c = fit (mean-is (goal.at.overflow_sub-result c).After-unit) tt

@@ -7,8 +7,8 @@ use Rattle.elements.proofs.reading.checked.Goals as goal
 pub returns-in-Refused : goal.returns-in-Refused
 returns-in-Refused c =
     let a = c.args in
-    let h = c.enum_told-1.given.1 in
-    h ∙ sym (stops _ _ _ (first-cons _ (rows_from_fields a.s.now a.e)) _ (sym c.word_Row.ensures ∙ h))
+    let h = c.in-Refused.is in
+    h ∙ sym (stops _ _ _ (first-cons _ (rows_from_fields a.s.now a.e)) _ (sym c.word_row-v.ensures ∙ h))
 
 pub returns-in-Passed : goal.returns-in-Passed
-returns-in-Passed c = c.fields_and_distance.ensures ∙ sym (goes _ _ _ (first-cons _ _) (sym c.word_Row.ensures ∙ c.enum_told-in-Passed-1.given.1))
+returns-in-Passed c = c.fields_and_distance.ensures ∙ sym (goes _ _ _ (first-cons _ _) (sym c.word_row-v.ensures ∙ c.in-Passed.is))

@@ -7,11 +7,11 @@ use Rattle.elements.proofs.reading.fields_and_distance.Goals as goal
 pub returns-in-Refused : goal.returns-in-Refused
 returns-in-Refused c =
     let a = c.args in
-    let h = c.enum_told-1.given.1 in
+    let h = c.in-Refused.is in
     h ∙ sym (stops _ _ _ (first_parts 7 (field_rows a.s.now a.e) (close_row a.e)) _ (sym c.orbit-v.ensures ∙ h))
 
 pub returns-in-Passed : goal.returns-in-Passed
 returns-in-Passed c =
     let a = c.args in
     then-told c.then.ensures c.sky.ensures c.close_row.ensures
-    ∙ sym (goes _ _ _ (first_parts 7 (field_rows a.s.now a.e) (close_row a.e)) (sym c.orbit-v.ensures ∙ c.enum_told-in-Passed-1.given.1))
+    ∙ sym (goes _ _ _ (first_parts 7 (field_rows a.s.now a.e) (close_row a.e)) (sym c.orbit-v.ensures ∙ c.in-Passed.is))

@@ -1,4 +1,6 @@
 // Totals by day: a summary of a list, with a record for each day that the window touches, and its update by one interval more.
+#![tactic(auto)]
+
 ghost use Rattle.std.specs.Prelude.{◌*◌, min, ◌≡◌, not, [], length, take};
 ghost use Rattle.std.proofs.lemmas.List.Edits.{sets};
 ghost use Rattle.words.specs.Little.{Holds};

@@ -1,4 +1,6 @@
 // The list of a window's intervals: samples, and in each step whose ends differ a search by halving. `t` is the sine table, lent.
+#![tactic(auto)]
+
 ghost use Rattle.std.specs.Prelude.{◌≡◌, cond, length};
 ghost use Rattle.geometry.specs.Ready.{Ready};
 ghost use Rattle.geometry.specs.Visible.{answer_at};

@@ -82,7 +82,7 @@ scaled-is {m = m} {n = n} k e h i t = record { is = cc; bound = rw e (scaled-wit
 pub unit-is : {r x y v w : ℤ} → Is r (x ∘ y) one → x ≡ v → y ≡ w → Is r (v ∘ w) one
 unit-is h e f = record { is = cc; bound = h.bound }
 
--- ---- for `search (needs, bounded)`: what an operation on two bounded numbers asks. The bounds are found among the facts in hand
+-- ---- for `search (rules, bounded)`: what an operation on two bounded numbers asks. The bounds are found among the facts in hand
 
 pub product-fits : (a b : ℤ) (m n : ℕ) → Within a m → Within b n → T (ltb (m * n) (2 ^ 63)) → SFits w64 (a *ℤ b)
 product-fits a b m n h k t = fits (mul-within h k) (ltb→lt (m * n) (2 ^ 63) t)

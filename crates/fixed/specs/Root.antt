@@ -1,7 +1,7 @@
 -- The whole square root q of n: q² ≤ n < (q + 1)² (document 01, "Place in the orbit").
 use Rattle.std.specs.Prelude.{Bool, true, false, ℕ, zero, suc, ◌+◌, ◌*◌, ◌≤◌, ◌<◌, leb}
 
--- what makes q the root of n. There is one such q, and `rootOf n` is it (proofs/Roots.antt)
+-- what makes q the root of n. There is one such q, and `root_of n` is it (proofs/Roots.antt)
 pub record Root (n q : ℕ) : Type 0 where
   pub low : q * q ≤ n
   pub high : n < (q + 1) * (q + 1)

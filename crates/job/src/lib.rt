@@ -1,4 +1,6 @@
 // One job whole: a record's bytes and a lent list in, the outcome out; and what the program writes for one record.
+#![tactic(auto)]
+
 ghost use Rattle.std.specs.Prelude.{◌≡◌, length};
 ghost use Rattle.std.proofs.lemmas.List.Edits.{sets};
 ghost use Rattle.refusal.specs.Rows.{first};

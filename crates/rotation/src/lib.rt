@@ -1,4 +1,6 @@
 // Turns, directions, and the rotation to the orbit's own axes. `t` is the sine table, lent.
+#![tactic(auto)]
+
 ghost use Rattle.std.specs.Prelude.{◌≡◌};
 ghost use Rattle.fixed.specs.Scaled.{one, ◌∘◌};
 ghost use Rattle.fixed.specs.Within.{Small, Is};

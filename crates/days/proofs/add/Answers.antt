@@ -7,9 +7,10 @@ use Rattle.days.proofs.Adding.{added_none, added-all, added_more, Turn, turn}
 use Rattle.days.proofs.Updates.{lies}
 use borrow.Author.Rules.{rules}
 use Rattle.days.proofs.add.Goals as goal
+use Rattle.days.proofs.add.Goals.{In-loop-d}
 
 -- what a turn relies on
-turned : (c : goal.In-loop-d → Turn (c.args.w.t0 / 86400000) (span c.args.first c.args.last) c.loop-d.d c.loop-d.out
+turned : (c : In-loop-d) → Turn (c.args.w.t0 / 86400000) (span c.args.first c.args.last) c.loop-d.d c.loop-d.out
 unfolding day_of
 turned c =
     turn c.loop-d.invariant.0 c.loop-d.invariant.2 c.loop-d-test.true c.args.w refl c.requires

@@ -11,16 +11,18 @@ use Rattle.days.specs.Totals.{append_of, append_after}
 use Rattle.days.proofs.append.Goals as goal
 
 pub append_in-requires : goal.append_in-requires
-append_in-requires c = (admitted_good _ (sym c.admit.ensures ∙ c.w-1.given.1)).1
+append_in-requires c = (admitted_good _ (sym c.admit.ensures ∙ c.in-Admitted.is)).1
 
 pub returns-in-TurnedAway : goal.returns-in-TurnedAway
 unfolding append_of append_after
 returns-in-TurnedAway c =
     let a = c.args in
-    away a.s.now a.out-1.now (λ v. bad_append v a.list.now a.piece.now (take (16 * days_of v) a.out-1.now)) (λ v. updated v (spans_of a.list.now) (span_at a.piece.now 0) a.out-1.now) _ (sym c.admit.ensures ∙ c.r-1.given.1)
+    let told = away a.s.now a.out.now (λ v. bad_append v a.list.now a.piece.now (take (16 * days_of v) a.out.now)) (λ v. updated v (spans_of a.list.now) (span_at a.piece.now 0) a.out.now) _ (sym c.admit.ensures ∙ c.in-TurnedAway.is) in
+    record { value = told.0; out_after = told.1 }
 
 pub returns-in-Admitted : goal.returns-in-Admitted
 unfolding append_of append_after
 returns-in-Admitted c =
     let a = c.args in
-    let_in a.s.now a.out-1.now (λ v. bad_append v a.list.now a.piece.now (take (16 * days_of v) a.out-1.now)) (λ v. updated v (spans_of a.list.now) (span_at a.piece.now 0) a.out-1.now) _ _ _ (sym c.admit.ensures ∙ c.w-1.given.1) c.append_in.ensures.0 c.append_in.ensures.1
+    let told = let_in a.s.now a.out.now (λ v. bad_append v a.list.now a.piece.now (take (16 * days_of v) a.out.now)) (λ v. updated v (spans_of a.list.now) (span_at a.piece.now 0) a.out.now) _ _ _ (sym c.admit.ensures ∙ c.in-Admitted.is) c.append_in.ensures.value c.append_in.ensures.out_after in
+    record { value = told.0; out_after = told.1 }

@@ -1,11 +1,15 @@
 -- `days::append_in` meets its contract: 11, 12, or the days that the interval touches.
-use Prim.Native.Nat.{◌*◌}
+use Prim.Native.Nat.{ℕ, ◌*◌}
 use mathlib.Core.Path.{◌≡◌, refl, sym, subst, ◌∙◌}
-use mathlib.Core.Bool.{false}
+use mathlib.Core.Bool.{Bool, true, false, not}
+use mathlib.Core.List.{List}
 use native.Mathlib.Omega.{arith}
 use borrow.Author.Tests.{not-true, not-false}
 use lib.ListN.{take}
 use lib.Seq.{length-take-le}
+use Rattle.words.specs.Little.{read_of}
+use Rattle.finder.specs.declared.Window.{Window}
+use Rattle.finder.specs.Samples.{Good}
 use Rattle.finder.specs.Spans.{Span, span}
 use Rattle.days.specs.Days.{days_of}
 use Rattle.days.specs.Given.{span_at, spans_of, bad_append}
@@ -13,50 +17,63 @@ use Rattle.days.specs.State.{Awaits}
 use Rattle.days.proofs.Cases.{days-most, Follows, good-append, answer-short, answer_bad, answer-written}
 use Rattle.days.proofs.append_in.Goals as goal
 
--- what was given
-abbrev start_of : goal.After-days-n → goal.Start
-start_of c = c
+-- what follows is not bad, so it awaits
+module _ (w : Window) (list piece out : List ℕ) {n : ℕ} {b : Bool} (g : Good w) (e : n ≡ days_of w) (told : b ≡ not (bad_append w list piece (take (16 * n) out))) where
+  good : b ≡ true → bad_append w list piece (take (16 * days_of w) out) ≡ false
+  good on = not-true _ (sym (rw e at told) ∙ on)
 
--- what follows is not bad
-good : (c : goal.Else-not-follows) → let a = (start_of c).args in bad_append a.w a.list.now a.piece.now (take (16 * days_of a.w) a.out-1.now) ≡ false
-good c =
-    not-true _ (sym (rw c.days-n.ensures at c.follows.ensures) ∙ not-false _ c.if-not-follows.false)
+  bad : b ≡ false → bad_append w list piece (take (16 * days_of w) out) ≡ true
+  bad off = not-false _ (sym (rw e at told) ∙ off)
 
--- so it awaits
-awaits : (c : goal.Else-not-follows) → let a = (start_of c).args in Follows a.w a.list.now a.piece.now a.out-1.now
-awaits c = good-append _ _ _ _ (start_of c).requires (good c)
+  awaits : b ≡ true → Follows w list piece out
+  awaits on = good-append w list piece out g (good on)
 
--- the interval that was read
-is-span : (c : goal.After-read8-2) → span c.read8.result c.read8-2.result ≡ span_at (start_of c).args.piece.now 0
-unfolding span_at
-is-span c = rw (c.read8.ensures, c.read8-2.ensures) refl
+  module _ (on : b ≡ true) {first last : ℕ} (p : first ≡ read_of 8 piece 8) (q : last ≡ read_of 8 piece 16) where
+    -- the interval that was read
+    is-span : span first last ≡ span_at piece 0
+    unfolding span_at
+    is-span = rw (p, q) refl
 
--- is the one that awaits
-waits : (c : goal.After-read8-2) → let a = (start_of c).args in Awaits a.w (spans_of a.list.now) (span c.read8.result c.read8-2.result) a.out-1.now
-waits c = let a = (start_of c).args in subst (λ (s : Span). Awaits a.w (spans_of a.list.now) s a.out-1.now) (sym (is-span c)) (awaits c).awaits
+    -- is the one that awaits
+    waits : Awaits w (spans_of list) (span first last) out
+    waits = subst (λ (s : Span). Awaits w (spans_of list) s out) (sym is-span) (awaits on).awaits
 
 pub overflow_mul-used : goal.overflow_mul-used
 overflow_mul-used c = omega (arith, c.days-n.ensures, days-most _ c.requires)
 
 pub returns-then-out-used : goal.returns-then-out-used
-returns-then-out-used c = (answer-short _ _ _ (omega (arith, c.days-n.ensures)), refl)
+returns-then-out-used c = record { value = answer-short _ _ _ (omega (arith, c.days-n.ensures)); out_after = refl }
 
 pub slice_bounds-follows-end-2 : goal.slice_bounds-follows-end-2
 slice_bounds-follows-end-2 c = sym (length-take-le _ _ (omega arith))
 
 pub returns-then-not-follows : goal.returns-then-not-follows
 returns-then-not-follows c =
-    let bad = not-false _ (sym (rw c.days-n.ensures at c.follows.ensures) ∙ not-true _ c.if-not-follows.true) in
-    (answer_bad _ _ _ (omega (arith, c.days-n.ensures)) bad, refl)
+    let a = c.args in
+    record { value = answer_bad _ _ _ (omega (arith, c.days-n.ensures)) (bad a.w a.list.now a.piece.now a.out.now c.requires c.days-n.ensures c.follows.ensures c.if-not-follows.true); out_after = refl }
 
 pub read8-requires : goal.read8-requires
-read8-requires c = omega (arith, (awaits (goal.at.read8-requires c).Else-not-follows).one)
+read8-requires c =
+    let a = c.args in
+    omega (arith, (awaits a.w a.list.now a.piece.now a.out.now c.requires c.days-n.ensures c.follows.ensures c.if-not-follows.false).one)
 
 pub read8-requires-2 : goal.read8-requires-2
-read8-requires-2 c = omega (arith, (awaits (goal.at.read8-requires-2 c).Else-not-follows).one)
+read8-requires-2 c =
+    let a = c.args in
+    omega (arith, (awaits a.w a.list.now a.piece.now a.out.now c.requires c.days-n.ensures c.follows.ensures c.if-not-follows.false).one)
 
 pub add-requires : goal.add-requires
-add-requires c = (_, waits (goal.at.add-requires c).After-read8-2)
+add-requires c =
+    let a = c.args in
+    (_, waits a.w a.list.now a.piece.now a.out.now c.requires c.days-n.ensures c.follows.ensures c.if-not-follows.false c.read8.ensures c.read8-2.ensures)
 
 pub returns : goal.returns
-returns c = (answer-written _ _ _ c.days-n.ensures (omega (arith, c.days-n.ensures)) (good (goal.at.returns c).Else-not-follows), c.add.ensures _ (waits (goal.at.returns c).After-read8-2) ∙ rw (is-span (goal.at.returns c).After-read8-2) refl)
+returns c =
+    let a = c.args in
+    let on = c.if-not-follows.false in
+    record {
+      value = answer-written _ _ _ c.days-n.ensures (omega (arith, c.days-n.ensures)) (good a.w a.list.now a.piece.now a.out.now c.requires c.days-n.ensures c.follows.ensures on);
+      out_after =
+          c.add.ensures _ (waits a.w a.list.now a.piece.now a.out.now c.requires c.days-n.ensures c.follows.ensures on c.read8.ensures c.read8-2.ensures)
+          ∙ rw (is-span a.w a.list.now a.piece.now a.out.now c.requires c.days-n.ensures c.follows.ensures on c.read8.ensures c.read8-2.ensures) refl;
+    }

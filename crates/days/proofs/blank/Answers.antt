@@ -1,7 +1,7 @@
 use Prim.Native.Nat.{◌-◌}
 use mathlib.Core.Path.{◌≡◌, refl}
 use native.Mathlib.Omega.{arith}
-use Rattle.days.specs.Days.{day_of}
+use Rattle.days.specs.Days.{day_of, days_between}
 use Rattle.days.specs.Summary.{records_from, summary_of}
 use Rattle.days.proofs.Records.{none_more}
 use borrow.Author.Rules.{rules}
@@ -16,6 +16,10 @@ put_day-requires c =
     let room = c.requires.room in
     let n = c.days-n.ensures in
     omega (arith, room, n)
+
+pub overflow_cast-start : goal.overflow_cast-start
+unfolding days_between day_of
+overflow_cast-start c = omega (arith, c.days-n.ensures, c.requires.good.end)
 
 pub loop-i-preserved : goal.loop-i-preserved
 loop-i-preserved c = (search rules, search rules, none_more _ _ _ c.loop-i.invariant.2 c.put_day.ensures)

@@ -1,8 +1,9 @@
 -- `days::summary_in` meets its contract: 11, 12, or the summary, copied from where it was worked out.
-use mathlib.Core.Path.{refl, sym, ◌∙◌}
+use Prim.Native.Nat.{◌*◌}
+use mathlib.Core.Path.{◌≡◌, refl, sym, ◌∙◌}
 use native.Mathlib.Omega.{arith}
-use lib.ListN.{length-take}
-use lib.Seq.{length-take-le}
+use lib.ListN.{length, take, length-take}
+use lib.Seq.{length-take-le, take-length}
 use Rattle.days.proofs.Cases.{days-most, has_room, worked-summary, copied, told_bad, told-good, answer-short, answer_bad, answer-written}
 use Rattle.days.proofs.summary_in.Goals as goal
 
@@ -10,7 +11,7 @@ pub overflow_mul-used : goal.overflow_mul-used
 overflow_mul-used c = omega (arith, c.days-n.ensures, days-most _ c.requires)
 
 pub returns-then-out-used : goal.returns-then-out-used
-returns-then-out-used c = (answer-short _ _ _ (omega (arith, c.days-n.ensures)), refl)
+returns-then-out-used c = record { value = answer-short _ _ _ (omega (arith, c.days-n.ensures)); out_after = refl }
 
 pub work_out-requires : goal.work_out-requires
 work_out-requires c = has_room _ _ c.requires refl
@@ -18,16 +19,25 @@ work_out-requires c = has_room _ _ c.requires refl
 pub slice_bounds-own-end : goal.slice_bounds-own-end
 slice_bounds-own-end c = omega (arith, c.days-n.ensures, days-most _ c.requires)
 
-pub slice-aggregate-copy?? : goal.slice-aggregate-copy??
-slice-aggregate-copy?? c = sym (length-take-le _ _ (omega (arith, c.days-n.ensures, days-most _ c.requires)))
+pub slice_bounds-copy_from_slice-end-in-Ordered-2 : goal.slice_bounds-copy_from_slice-end-in-Ordered-2
+slice_bounds-copy_from_slice-end-in-Ordered-2 c = sym (length-take-le _ _ (omega (arith, c.days-n.ensures, days-most _ c.requires)))
 
-pub copy-requires?? : goal.copy-requires??
-copy-requires?? c = simp length-take (omega arith)
+pub copy_from_slice-requires : goal.copy_from_slice-requires
+copy_from_slice-requires c =
+    let n = c.days-n.ensures in
+    let most = days-most _ c.requires in
+    simp length-take (omega arith)
 
 pub returns-in-Bad : goal.returns-in-Bad
-returns-in-Bad c = (answer_bad _ _ _ (omega (arith, c.days-n.ensures)) (told_bad _ _ (sym c.work_out.ensures.0 ∙ c.enum_told-1.given.1)), refl)
+returns-in-Bad c = record { value = answer_bad _ _ _ (omega (arith, c.days-n.ensures)) (told_bad _ _ (sym c.work_out.ensures.value ∙ c.in-Bad.is)); out_after = refl }
 
 pub returns-in-Ordered : goal.returns-in-Ordered
 returns-in-Ordered c =
-    let good = told-good _ _ _ (sym c.work_out.ensures.0 ∙ c.enum_told-in-Ordered-1.given.1) in
-    (answer-written _ _ _ c.days-n.ensures (omega (arith, c.days-n.ensures)) good.0, copied _ _ _ _ (worked-summary _ _ _ _ c.work_out.ensures.1 good.0 c.requires refl c.days-n.ensures) (omega (arith, c.days-n.ensures)) c.copy.ensures.1)
+    let good = told-good _ _ _ (sym c.work_out.ensures.value ∙ c.in-Ordered.is) in
+    let own = worked-summary _ _ _ _ c.work_out.ensures.summed_up good.0 c.requires refl c.days-n.ensures in
+    let part = take (16 * c.days-n.result) c.work_out.new.own in
+    let long : length part ≡ 16 * c.days-n.result = length-take-le _ _ (omega (arith, c.days-n.ensures, days-most _ c.requires)) in
+    record {
+      value = answer-written _ _ _ c.days-n.ensures (omega (arith, c.days-n.ensures)) good.0;
+      out_after = copied _ _ part _ own (omega (arith, c.days-n.ensures)) (rw (take-length part, long, c.copy_from_slice.ensures.after) refl);
+    }

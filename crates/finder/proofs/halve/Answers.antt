@@ -1,4 +1,3 @@
-use Prim.Native.Nat.{◌-◌}
 use native.Mathlib.Omega.{arith}
 use Rattle.halving.proofs.Loop.{look_start, look_done, look_more, look_up, look_down}
 use Rattle.finder.specs.Spans.{edge}

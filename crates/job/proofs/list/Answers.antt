@@ -1,31 +1,28 @@
 -- `job::list` meets its contract: rows 1 to 5 stop it, or hand on to rows 6 to 9.
-use mathlib.Core.Path.{◌≡◌, sym, ◌∙◌}
+use mathlib.Core.Path.{sym}
 use native.Mathlib.Omega.{arith}
-use Rattle.elements.specs.Reading.{reading_of}
-use Rattle.elements.specs.declared.reading.Reading.TheVariants.{Read}
 use Rattle.elements.proofs.Exactly.{read-accepted, read_whole}
 use Rattle.job.proofs.Cases.{unread, was_read}
 use Rattle.job.proofs.list.Goals as goal
 
--- what was read
-was : (c : goal.In-Read) → reading_of c.args.s.now ≡ Read c.e-1.given.0.0
-was c = sym c.read.ensures ∙ c.e-1.given.1
-
 pub read4-requires : goal.read4-requires
-read4-requires c = omega (arith, read_whole _ _ (was (goal.at.read4-requires c).In-Read))
+read4-requires c = omega (arith, read_whole _ _ (sym c.in-Read.ensures))
 
 pub window-requires : goal.window-requires
-window-requires c = read_whole _ _ (was (goal.at.window-requires c).In-Read)
+window-requires c = read_whole _ _ (sym c.in-Read.ensures)
 
 pub from_window-requires : goal.from_window-requires
-from_window-requires c = read-accepted _ _ (was (goal.at.from_window-requires c).In-Read)
+from_window-requires c = read-accepted _ _ (sym c.in-Read.ensures)
 
 pub returns-in-Refused : goal.returns-in-Refused
 returns-in-Refused c =
     let a = c.args in
-    unread a.s.now a.list-1.now _ (sym c.read.ensures ∙ c.r-1.given.1)
+    let p = unread a.s.now a.list.now _ (sym c.in-Refused.ensures) in
+    record { value = p.0; list_after = p.1 }
 
 pub returns-in-Read : goal.returns-in-Read
 returns-in-Read c =
     let a = c.args in
-    was_read a.s.now a.list-1.now _ _ _ (was (goal.at.returns-in-Read c).In-Read) (rw (← c.window.ensures, ← c.read4.ensures) c.from_window.ensures)
+    let t = c.from_window in
+    let p = was_read a.s.now a.list.now _ t.result t.new.list (sym c.in-Read.ensures) (rw (← c.window.ensures, ← c.read4.ensures) (t.ensures.value, t.ensures.list_after)) in
+    record { value = p.0; list_after = p.1 }

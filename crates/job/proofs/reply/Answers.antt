@@ -1,32 +1,32 @@
 -- `job::reply` meets its contract: the records in all of the buffer but 24 bytes, then the closing record.
 use Prim.Native.Nat.{◌+◌, ◌*◌, ◌≤◌}
-use mathlib.Core.Path.{sym, ap, ◌∙◌}
+use mathlib.Core.Path.{ap, ◌∙◌}
 use native.Mathlib.Omega.{arith}
 use lib.ListN.{length}
-use lib.Seq.{length-take-le}
 use Rattle.job.specs.Reply.{closing_of}
 use Rattle.job.proofs.Parts.{too_short, room-left, room_for, replied}
 use Rattle.job.proofs.reply.Goals as goal
+use Rattle.job.proofs.reply.Goals.{After-intervals-at}
 
 -- the records and the closing record fit
-fits : (c : goal.After-intervals-at) → 24 * c.intervals-at.result + 24 ≤ length c.args.out.now
+fits : (c : After-intervals-at) → 24 * c.intervals-at.result + 24 ≤ length c.args.out.now
 fits c =
     let a = c.args in
-    room-left a.s.now a.out-1.now c.if-room-lt24.false _ _ _ c.list-o.ensures.0 c.list-o.ensures.1 c.intervals-at.ensures
+    room-left a.s.now a.out.now c.if-room-lt24.false _ _ _ c.list-o.ensures.value c.list-o.ensures.list_after c.intervals-at.ensures
 
 pub returns-then-room-lt24 : goal.returns-then-room-lt24
-returns-then-room-lt24 c = let a = c.args in too_short a.s.now a.out-1.now c.if-room-lt24.true
-
-pub slice_bounds-list-length : goal.slice_bounds-list-length
-slice_bounds-list-length c = sym (length-take-le _ c.args.out.now (omega arith))
+returns-then-room-lt24 c =
+    let a = c.args in
+    let p = too_short a.s.now a.out.now c.if-room-lt24.true in
+    record { value = p.0; out_after = p.1 }
 
 pub overflow_mul-at : goal.overflow_mul-at
-overflow_mul-at c = omega (arith, fits (goal.at.overflow_mul-at c).After-intervals-at)
+overflow_mul-at c = omega (arith, fits c)
 
 pub write-requires : goal.write-requires
 write-requires c =
     let a = c.args in
-    room_for a.s.now a.out-1.now c.if-room-lt24.false _ _ _ c.list-o.ensures.0 c.list-o.ensures.1 c.intervals-at.ensures
+    room_for a.s.now a.out.now c.if-room-lt24.false _ _ _ c.list-o.ensures.value c.list-o.ensures.list_after c.intervals-at.ensures
 
 pub overflow_add-result : goal.overflow_add-result
 overflow_add-result c = omega (arith, fits (goal.at.overflow_add-result c).After-intervals-at)
@@ -35,4 +35,5 @@ pub returns : goal.returns
 returns c =
     let a = c.args in
     let closes = c.closing.ensures ∙ ap (λ j. closing_of j c.list-o.result) c.job_number.ensures in
-    replied a.s.now a.out-1.now c.if-room-lt24.false _ _ _ c.list-o.ensures.0 c.list-o.ensures.1 c.intervals-at.ensures _ _ closes c.write.ensures
+    let p = replied a.s.now a.out.now c.if-room-lt24.false _ _ _ c.list-o.ensures.value c.list-o.ensures.list_after c.intervals-at.ensures _ _ closes c.write.ensures in
+    record { value = p.0; out_after = p.1 }

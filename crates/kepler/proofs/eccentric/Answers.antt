@@ -12,16 +12,10 @@ loop-low-init c =
     let on = c.sure_cell-c.ensures.1 in
     (omega (arith, on.wide, pow_pos c.sure_cell-c.ensures.0), on.within, (_, looking on))
 
-pub loop-low-smaller-then-reaches : goal.loop-low-smaller-then-reaches
-loop-low-smaller-then-reaches c = omega arith
-
 pub loop-low-preserved-then-reaches : goal.loop-low-preserved-then-reaches
 loop-low-preserved-then-reaches c =
     let inv = c.loop-low.invariant in
     (omega arith, inv.1, (_, look_up _ inv.2.1 (omega arith) (sym c.reaches.ensures ∙ c.if-reaches.true)))
-
-pub loop-low-smaller : goal.loop-low-smaller
-loop-low-smaller c = omega arith
 
 pub loop-low-preserved : goal.loop-low-preserved
 loop-low-preserved c =

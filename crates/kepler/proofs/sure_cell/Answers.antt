@@ -23,12 +23,6 @@ module _ (c : After-cell-c) where
   ends : (c.cell-c.result.low ≤ turn) × (c.cell-c.result.high ≤ turn)
   ends = ends_in_turn g s in-turn few c.cell-c.ensures
 
-pub loop-s-init : goal.loop-s-init
-loop-s-init c = omega arith
-
-pub cell-c-requires : goal.cell-c-requires
-cell-c-requires c = omega arith
-
 pub yes_up_to-requires : goal.yes_up_to-requires
 yes_up_to-requires c = let p = c.requires in (p.0, p.1, (ends c).0)
 
@@ -43,15 +37,6 @@ returns-then-no_from c =
     let lower = c.yes_up_to.ensures c.if-yes_up_to.true in
     let upper = c.no_from.ensures c.if-no_from.true in
     (s a, goes_on (g a) (s a) (in-turn a) (few a) c.cell-c.ensures _ _ lower upper)
-
-pub overflow_mul-s : goal.overflow_mul-s
-overflow_mul-s c = omega arith
-
-pub loop-s-smaller : goal.loop-s-smaller
-loop-s-smaller c = omega arith
-
-pub loop-s-preserved : goal.loop-s-preserved
-loop-s-preserved c = omega arith
 
 pub returns : goal.returns
 returns c = (32, whole _ _)

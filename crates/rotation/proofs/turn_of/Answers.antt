@@ -13,4 +13,4 @@ pub returns : goal.returns
 unfolding turn_of
 returns c =
     let first = c.cosine-cos in
-    both (got first.result first.type-inv ∙ first.ensures) (got c.sine-sin.result c.sine-sin.type-inv ∙ c.sine-sin.ensures)
+    both (got first.result first.type_inv ∙ first.ensures) (got c.sine-sin.result c.sine-sin.type_inv ∙ c.sine-sin.ensures)

@@ -247,13 +247,13 @@ module _ (s old : List ℕ) (o : Outcome) (new : List ℕ) (job : Job s old o ne
     reads_as b i below = ap (λ (x : List ℕ). parsed_of (take 24 (drop (24 * i) x))) job.bytes ∙ written.record_is s old (told job h) i below b
 
     -- each of its six flags is set exactly where it is to be
-    pub flags_are : (i : ℕ) → i < n → let one = get_or l i (span 0 0) in Says g w one (interval_of g w one).flags
+    pub flags-are : (i : ℕ) → i < n → let one = get_or l i (span 0 0) in Says g w one (interval_of g w one).flags
     unfolding interval_of
-    flags_are i below = flags_say g w (get_or l i (span 0 0))
+    flags-are i below = flags_say g w (get_or l i (span 0 0))
 
     -- the list is made of the answers at the instants asked, and no others: any answer that is alike there has the same list
-    pub only_asked : (f' : ℕ → Bool) → Alike f f' (instants_of f w) → (list_of f' w ≡ l) × (instants_of f' w ≡ instants_of f w)
-    only_asked f' = list-alike f f' w
+    pub only-asked : (f' : ℕ → Bool) → Alike f f' (instants_of f w) → (list_of f' w ≡ l) × (instants_of f' w ≡ instants_of f w)
+    only-asked f' = list-alike f f' w
 
     -- where a first is not t0, it and the instant before it were asked already; where a last is not t1, it and the instant after it
     pub ends_asked : (i : ℕ) → i < n → let one = get_or l i (span 0 0) in FirstAsked w (instants_of f w) one.first × LastAsked w (instants_of f w) one.last
@@ -305,9 +305,9 @@ module _ (s old : List ℕ) (o : Outcome) (new : List ℕ) (job : Job s old o ne
     at-samples = list-sample w (good job h) f
 
     -- a step whose ends differ holds exactly one change: the list is as its low end up to e and as its high end from e + 1 on, and so the answers are at these two
-    pub one_change : (i : ℕ) → i < steps_of w → let a = sample_at w i in let b = sample_at w (suc i) in f a ≢ f b
+    pub one-change : (i : ℕ) → i < steps_of w → let a = sample_at w i in let b = sample_at w (suc i) in f a ≢ f b
         → (e : ℕ) × (a ≤ e) × (e < b) × (f e ≡ f a) × (f (e + 1) ≡ f b) × ((t : ℕ) → a ≤ t → t ≤ e → listed l t ≡ f a) × ((t : ℕ) → e < t → t ≤ b → listed l t ≡ f b)
-    one_change i below d =
+    one-change i below d =
         let s = list-step w (good job h) f i below in
         let before = s.differs d in
         (s.e, s.from, before, s.low, s.high before, s.as_a, s.as_b)
@@ -341,8 +341,8 @@ module _ (s old : List ℕ) (o : Outcome) (new : List ℕ) (job : Job s old o ne
     yes_at_start yes' = let k = list_opens w (good job h) f yes' in (subst (λ (m : ℕ). 0 < m) (sym intervals-is) k.0, k.1)
 
     -- a yes at t1 closes one there
-    pub yes_at_end : f w.t1 ≡ true → (j : ℕ) × (j < n) × ((get_or l j (span 0 0)).last ≡ w.t1)
-    yes_at_end yes' = let k = list-closes w (good job h) f yes' in (k.0, subst (λ (m : ℕ). k.0 < m) (sym intervals-is) k.1, k.2)
+    pub yes-at-end : f w.t1 ≡ true → (j : ℕ) × (j < n) × ((get_or l j (span 0 0)).last ≡ w.t1)
+    yes-at-end yes' = let k = list-closes w (good job h) f yes' in (k.0, subst (λ (m : ℕ). k.0 < m) (sym intervals-is) k.1, k.2)
 
     -- the count is the number of the instants asked
     pub count-is : k ≡ length (instants_of f w)

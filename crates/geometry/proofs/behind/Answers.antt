@@ -2,14 +2,12 @@
 use mathlib.Core.Path.{◌≡◌, refl, sym, ap, ◌∙◌}
 use mathlib.Core.Bool.{Bool, true, false, cond, ◌&&◌}
 use Prim.Native.Nat.{ℕ, zero, suc, ◌+◌, ◌*◌, ◌-◌, ◌≤◌, ◌^◌}
-use native.Mathlib.Nat.{mul-le-mul, lt_of_le_of_lt, add-zero}
+use native.Mathlib.Nat.{mul-le-mul, add-zero}
 use native.Mathlib.Omega.{arith}
 use borrow.Author.Tests.{lt-ltb, le-ltb, ltb-true, ltb-false}
-use lib.Dec.{T, ltb, lit<}
+use lib.Dec.{T, ltb}
 use lib.IntN.{ℤ, pos, negsuc, nat_abs, ◌+ℤ◌, ◌-ℤ◌, ◌*ℤ◌, neg_ℤ}
 use lib.Signed.{lt_z}
-use mir.Syntax.{w64}
-use mir.Val.{SFits}
 use Rattle.fixed.specs.Within.{Within, Is}
 use Rattle.fixed.proofs.Machine.{loc, fit, held, operand, product, sum, negation, told}
 use Rattle.elements.specs.Rounding.{most_axis}
@@ -74,15 +72,6 @@ module _ {x y : ℤ} (hx : Within x (2 * most_axis)) (hy : Within y most_axis) w
   plane-is : loc (loc (loc x *ℤ loc x) +ℤ loc (loc y *ℤ loc y)) ≡ pos (nat_abs x * nat_abs x + nat_abs y * nat_abs y)
   plane-is = (held plane tt).is ∙ rw (square x, square y)
 
-negative : {d : ℤ} → SFits w64 d → lt_z (loc d) (pos 0) ≡ true → lt_z d (pos 0) ≡ true
-negative f said = told (pos 0) f said
-
-pub overflow_sub-deep : goal.overflow_sub-deep
-overflow_sub-deep c = fit (negation (operand c.requires.1 tt)) tt
-
-pub overflow_cast-deep : goal.overflow_cast-deep
-overflow_cast-deep c = rw (deep_is c.requires.1 (negative c.ranges.d c.if-d-lt0.true)) (tt, record { fits = lt_of_le_of_lt c.requires.1.within (lit< tt) })
-
 pub overflow_mul-square : goal.overflow_mul-square
 overflow_mul-square c = fit (squared c.requires.0.x tt) tt
 
@@ -98,19 +87,9 @@ overflow_cast-square c =
     let y = c.requires.0.y in
     rw (plane-is x y) (tt, record { fits = omega (arith, mul-le-mul x.within x.within, mul-le-mul y.within y.within) })
 
-pub overflow_mul-result : goal.overflow_mul-result
-overflow_mul-result c =
-    let h = c.requires.1 in
-    rw (deep_is h (negative c.ranges.d c.if-d-lt0.true)) (record { fits = lt_of_le_of_lt (mul-le-mul h.within h.within) (lit< tt) })
-
-pub overflow_add-result : goal.overflow_add-result
-overflow_add-result c =
-    rw (deep_is c.requires.1 (negative c.ranges.d c.if-d-lt0.true))
-    (record { fits = omega (arith, c.requires.0.orbit.ellipse.radius, mul-le-mul c.requires.1.within c.requires.1.within) })
-
 pub returns-then-d-lt0 : goal.returns-then-d-lt0
 returns-then-d-lt0 c =
-    let below = negative c.ranges.d c.if-d-lt0.true in
+    let below : lt_z c.args.d (pos 0) ≡ true = told (pos 0) c.ranges.d c.if-d-lt0.true in
     test c.args.o.ellipse.radius2 (ap nat_abs (plane-is c.requires.0.x c.requires.0.y)) (ap nat_abs (deep_is c.requires.1 below))
     ∙ dark-side c.args.o c.args.a c.args.d below
 

@@ -1,8 +1,6 @@
 -- `geometry::ellipse_of` meets its contract, field by field.
 use mathlib.Core.Path.{◌≡◌, ◌∙◌}
 use Prim.Native.Nat.{ℕ}
-use native.Mathlib.Nat.{mul-le-mul}
-use native.Mathlib.Omega.{arith}
 use lib.IntN.{ℤ}
 use Rattle.fixed.proofs.Machine.{cast, got}
 use Rattle.geometry.specs.declared.Ellipse.{Ellipse}
@@ -13,9 +11,6 @@ fields : {a b v w : ℤ} {e p r : ℕ} → a ≡ v → b ≡ w
     → ◌≡◌ {A = Ellipse} (record { axis = a; eccentricity = e; minor = b; period = p; radius2 = r })
     (record { axis = v; eccentricity = e; minor = w; period = p; radius2 = r })
 fields e f = cc
-
-pub overflow_mul-result : goal.overflow_mul-result
-overflow_mul-result c = omega (arith, mul-le-mul c.requires.radius c.requires.radius)
 
 pub returns : goal.returns
 unfolding ellipse_of

@@ -8,18 +8,12 @@ use Rattle.fixed.specs.Within.{Small}
 use Rattle.fixed.proofs.Machine.{fit, held, plain, cast, product, scaled-is}
 use Rattle.elements.specs.Rounding.{most_axis}
 use Rattle.geometry.specs.Prepared.{minor_of}
-use Rattle.geometry.proofs.Bounds.{root-small, square-below}
+use Rattle.geometry.proofs.Bounds.{root-small}
 use Rattle.geometry.proofs.minor.Goals as goal
 use Rattle.geometry.proofs.minor.Goals.{After-whole_root-q}
 
 q-small : (c : After-whole_root-q) → Small (pos c.whole_root-q.result)
 q-small c = rw c.whole_root-q.ensures (root-small _ (omega arith))
-
-pub overflow_mul-e : goal.overflow_mul-e
-overflow_mul-e c = omega (arith, square-below _ c.requires.eccentricity)
-
-pub overflow_sub-e : goal.overflow_sub-e
-overflow_sub-e c = omega (arith, square-below _ c.requires.eccentricity)
 
 pub overflow_cast-q : goal.overflow_cast-q
 overflow_cast-q c = fit (plain (q-small (goal.at.overflow_cast-q c).After-whole_root-q)) tt

@@ -13,7 +13,7 @@ use Rattle.finder.specs.declared.Window.{Window}
 use Rattle.finder.specs.Samples.{Good}
 use Rattle.finder.specs.Spans.{Span}
 use Rattle.days.specs.Days.{day_of, days_between, days_of}
-use Rattle.days.specs.Counts.{instants_in, instants_under, touches, touching}
+use Rattle.days.specs.Counts.{instants_in, instants_under, touching}
 use Rattle.days.specs.Summary.{day_bytes, day_record, records_from, summary_of, updated}
 use Rattle.days.specs.Given.{bad_spans}
 use Rattle.days.specs.State.{next_from, Awaits}

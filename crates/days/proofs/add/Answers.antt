@@ -1,4 +1,4 @@
-use Prim.Native.Nat.{◌+◌, ◌-◌, ◌/◌}
+use Prim.Native.Nat.{◌+◌, ◌/◌}
 use mathlib.Core.Path.{◌≡◌, refl}
 use native.Mathlib.Omega.{arith}
 use Rattle.finder.specs.Spans.{span}
@@ -22,20 +22,11 @@ loop-d-init c = (added_none refl, refl, omega arith, omega (arith, (lies _ _ _ _
 pub overflow_sub-at : goal.overflow_sub-at
 overflow_sub-at c = omega (arith, (turned (goal.at.overflow_sub-at c).In-loop-d).started)
 
-pub overflow_mul-at : goal.overflow_mul-at
-overflow_mul-at c = omega (arith, (turned (goal.at.overflow_mul-at c).In-loop-d).small)
-
-pub overflow_add-at : goal.overflow_add-at
-overflow_add-at c = omega (arith, (turned (goal.at.overflow_add-at c).In-loop-d).small)
-
 pub read4-intervals-requires : goal.read4-intervals-requires
 read4-intervals-requires c = omega (arith, (turned (goal.at.read4-intervals-requires c).In-loop-d).room)
 
 pub overflow_add-intervals : goal.overflow_add-intervals
 overflow_add-intervals c = omega (arith, c.read4-intervals.ensures, (turned (goal.at.overflow_add-intervals c).In-loop-d).few)
-
-pub overflow_add-at-in-loop-d : goal.overflow_add-at-in-loop-d
-overflow_add-at-in-loop-d c = omega (arith, (turned (goal.at.overflow_add-at-in-loop-d c).In-loop-d).small)
 
 pub read8-requires : goal.read8-requires
 read8-requires c = omega (arith, (turned (goal.at.read8-requires c).In-loop-d).room)
@@ -51,12 +42,6 @@ overflow_cast-d c = omega (arith, (turned (goal.at.overflow_cast-d c).In-loop-d)
 
 pub put_day-requires : goal.put_day-requires
 put_day-requires c = omega (arith, (turned (goal.at.put_day-requires c).In-loop-d).room)
-
-pub overflow_add-d : goal.overflow_add-d
-overflow_add-d c = omega (arith, (turned (goal.at.overflow_add-d c).In-loop-d).small)
-
-pub loop-d-smaller : goal.loop-d-smaller
-loop-d-smaller c = omega arith
 
 pub loop-d-preserved : goal.loop-d-preserved
 unfolding day_of

@@ -6,7 +6,6 @@ use mathlib.Core.List.{List}
 use native.Mathlib.Omega.{arith}
 use borrow.Author.Tests.{not-true, not-false}
 use lib.ListN.{take}
-use lib.Seq.{length-take-le}
 use Rattle.words.specs.Little.{read_of}
 use Rattle.finder.specs.declared.Window.{Window}
 use Rattle.finder.specs.Samples.{Good}
@@ -43,9 +42,6 @@ overflow_mul-used c = omega (arith, c.days-n.ensures, days-most _ c.requires)
 
 pub returns-then-out-used : goal.returns-then-out-used
 returns-then-out-used c = record { value = answer-short _ _ _ (omega (arith, c.days-n.ensures)); out_after = refl }
-
-pub slice_bounds-follows-end-2 : goal.slice_bounds-follows-end-2
-slice_bounds-follows-end-2 c = sym (length-take-le _ _ (omega arith))
 
 pub returns-then-not-follows : goal.returns-then-not-follows
 returns-then-not-follows c =

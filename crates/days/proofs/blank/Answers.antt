@@ -1,4 +1,3 @@
-use Prim.Native.Nat.{◌-◌}
 use mathlib.Core.Path.{◌≡◌, refl}
 use native.Mathlib.Omega.{arith}
 use Rattle.days.specs.Days.{day_of, days_between}
@@ -10,12 +9,6 @@ use Rattle.days.proofs.blank.Goals as goal
 pub loop-i-init : goal.loop-i-init
 unfolding records_from
 loop-i-init c = (refl, omega arith, refl)
-
-pub put_day-requires : goal.put_day-requires
-put_day-requires c =
-    let room = c.requires.room in
-    let n = c.days-n.ensures in
-    omega (arith, room, n)
 
 pub overflow_cast-start : goal.overflow_cast-start
 unfolding days_between day_of

@@ -1,16 +1,11 @@
-use Prim.Native.Nat.{◌-◌}
-use mathlib.Core.Path.{refl, sym, ◌∙◌}
+use mathlib.Core.Path.{sym, ◌∙◌}
 use native.Mathlib.Omega.{arith}
 use borrow.Author.Tests.{eq-eqb, ne_eqb}
 use Rattle.days.proofs.Sames.{same-long, same_next, same_end}
-use borrow.Author.Rules.{rules}
 use Rattle.days.proofs.same_bytes.Goals as goal
 
 pub returns-then-a-b : goal.returns-then-a-b
 returns-then-a-b c = same-long _ _ (λ e. omega (arith, e))
-
-pub loop-i-init : goal.loop-i-init
-loop-i-init c = (search rules, omega arith, refl)
 
 pub returns-then-a-i : goal.returns-then-a-i
 returns-then-a-i c =

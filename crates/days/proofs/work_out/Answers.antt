@@ -6,7 +6,7 @@ use Rattle.words.specs.Little.{read_of}
 use Rattle.finder.specs.Spans.{span}
 use Rattle.days.specs.Given.{span_at}
 use Rattle.days.proofs.Orderly.{good-span}
-use Rattle.days.proofs.Working.{blank-room, blank-behind, work_start, work_awaits, work_more, work_bad, work_halves, work_done, worked_bad}
+use Rattle.days.proofs.Working.{blank-room, blank-behind, work_start, work_more, work_bad, work_halves, work_done, worked_bad}
 use borrow.Author.Rules.{rules}
 use Rattle.days.proofs.work_out.Goals as goal
 
@@ -28,10 +28,6 @@ returns-then-bad_span c =
     let list = c.args.list.now in
     let bad = worked_bad c.args.w list c.args.own.now c.loop-k.own (work_bad (blank-room c.requires c.blank.ensures) c.loop-k.invariant.1 (is-span list c.loop-k.k c.read8-first.ensures c.read8-last.ensures) (omega arith) (sym c.bad_span.ensures ∙ c.if-bad_span.true)) in
     record { value = bad.0; summed_up = bad.1 }
-
-pub add-requires : goal.add-requires
-add-requires c =
-    (_, work_awaits (blank-room c.requires c.blank.ensures) c.loop-k.invariant.1 (is-span c.args.list.now c.loop-k.k c.read8-first.ensures c.read8-last.ensures) (sym c.bad_span.ensures ∙ c.if-bad_span.false))
 
 pub overflow_add-next : goal.overflow_add-next
 overflow_add-next c =

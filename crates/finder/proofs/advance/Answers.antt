@@ -5,7 +5,6 @@ use Rattle.geometry.specs.Sight.{sight_at}
 use Rattle.finder.proofs.OneStep.{found-most}
 use Rattle.finder.proofs.Flags.{bits_most}
 use Rattle.finder.proofs.Advanced.{Parted, stays, turned, begins, ends-room, ends}
-use borrow.Author.Rules.{rules}
 use Rattle.finder.proofs.advance.Goals as goal
 use Rattle.finder.proofs.advance.Goals.{After-halve-e}
 
@@ -39,9 +38,6 @@ overflow_mul-flags c = omega (arith, bits_most _ 4 8 _ _ c.why-flags.ensures)
 
 pub put-requires : goal.put-requires
 put-requires c = ends-room (parted (goal.at.put-requires c).After-halve-e) c.why-flags.ensures c.if-yes.false
-
-pub overflow_add-result-2 : goal.overflow_add-result-2
-overflow_add-result-2 c = search (rules, c.requires.1.room)
 
 pub returns : goal.returns
 returns c =

@@ -1,5 +1,7 @@
 // The door for C, Rust and Python: numbers and byte slices only, each function thin over `job` or `days`. include/quechotzal.h says the same to a C
 // programmer.
+#![tactic(auto)]
+
 ghost use Rattle.std.specs.Prelude.{◌≡◌};
 ghost use Rattle.job.specs.Outcome.{list_after_of};
 ghost use Rattle.days.specs.Totals.{summary_after_of, append_after};

@@ -1,4 +1,5 @@
 // A search by halving (specs/Halving.antt, proofs/Laws.antt, proofs/Loop.antt; with less work proofs/Foretold.antt, proofs/Cells.antt): what the crates that search share.
+#![tactic(auto)]
 
 // Where a search ends, and how many middles it asked.
 #[derive(Clone, Copy)]

@@ -1,12 +1,15 @@
 // The program: orbit records on standard input, and for each its intervals and a closing record on standard output (document 01, "One job whole").
 // No contract can say what is read or written. What the contracts say is what stands in the buffers between the two.
+#![tactic(auto)]
+
 ghost use Rattle.std.specs.Prelude.{◌+◌, ◌%◌, min, ◌≡◌, length};
 ghost use Rattle.std.proofs.lemmas.List.Edits.{sets};
 ghost use Rattle.io.specs.Counts.{IsPrefixLen};
 ghost use Rattle.lists.specs.Replies.{piece_of, roomy_reply, replies_of, Begins, Pieces, RoomBehind};
 ghost use Rattle.lists.specs.Buffer.{tail_of, Filled, Kept};
 
-use libc::{STDIN_FILENO, STDOUT_FILENO};
+use std::io;
+use std::io::Read;
 
 const RECORD: usize = 136;
 
@@ -54,24 +57,31 @@ fn replies(src: &[u8], out: &mut [u8]) -> Batch
     Batch { pieces: n, used }
 }
 
+// Says on standard error what failed and how. Where that fails too, nobody is left to tell.
+fn say(rt: &impl Eprint, what: &str, e: io::Error) {
+    let _ = eprintln!(rt; "{what}: {e}");
+}
+
 // Writes `bytes`; false where that failed, which is said on standard error.
-fn written(bytes: &[u8]) -> bool {
-    if io::write_all(STDOUT_FILENO, bytes) {
-        return true;
+fn written(rt: &(impl Print + Eprint), bytes: &[u8]) -> bool {
+    match rt.write_all(bytes) {
+        Ok(()) => true,
+        Err(e) => {
+            say(rt, "lists: standard output", e);
+            false
+        }
     }
-    os::fail(b"lists: standard output");
-    false
 }
 
 // Answers every piece of `src`, by way of `out`; false where a write failed.
-fn reply_all(src: &[u8], out: &mut [u8]) -> bool
+fn reply_all(rt: &(impl Print + Eprint), src: &[u8], out: &mut [u8]) -> bool
     requires { RoomBehind 0 out.old }
 {
     let mut at = 0;
     while at < src.len() {
         let b = replies(&src[at..], out);
         let used = b.used;
-        if !written(&out[..used]) {
+        if !written(rt, &out[..used]) {
             return false;
         }
         at += RECORD * b.pieces;
@@ -96,23 +106,31 @@ fn keep(buf: &mut [u8], filled: usize) -> usize
 }
 
 // One read behind the `kept` bytes of a record that has not come whole, and the replies to those that have; whether to go on.
-fn turn(buf: &mut [u8], kept: &mut usize, out: &mut [u8]) -> bool
+fn turn(
+    rt: &(impl Print + Eprint),
+    input: &mut impl Read,
+    buf: &mut [u8],
+    kept: &mut usize,
+    out: &mut [u8],
+) -> bool
     requires { (Kept kept.old buf.old) × (RoomBehind 0 out.old) }
     ensures { Kept kept.new buf.new }
 {
     let from = *kept;
-    let got = libc::read(STDIN_FILENO, &mut buf[from..]);
-    if got < 0 {
-        os::fail(b"lists: standard input");
-        return false;
-    }
+    let got = match input.read(&mut buf[from..]) {
+        Ok(got) => got,
+        Err(e) => {
+            say(rt, "lists: standard input", e);
+            return false;
+        }
+    };
     if got == 0 {
-        reply_all(&buf[..from], out);
+        reply_all(rt, &buf[..from], out);
         return false;
     }
-    let filled = from + io::count(got, &buf[from..]);
+    let filled = from + got;
     let whole = filled - filled % RECORD;
-    if !reply_all(&buf[..whole], out) {
+    if !reply_all(rt, &buf[..whole], out) {
         return false;
     }
     *kept = keep(buf, filled);
@@ -120,19 +138,19 @@ fn turn(buf: &mut [u8], kept: &mut usize, out: &mut [u8]) -> bool
 }
 
 // A proved loop has to end, so it counts its turns down, from a number that no run uses up.
-fn run(buf: &mut [u8], out: &mut [u8])
+fn run(rt: &(impl Print + Eprint), input: &mut impl Read, buf: &mut [u8], out: &mut [u8])
     requires { (Kept 0 buf.old) × (RoomBehind 0 out.old) }
 {
     let mut turns = u64::MAX;
     let mut kept = 0;
-    while turns > 0 && turn(buf, &mut kept, out) {
+    while turns > 0 && turn(rt, input, buf, &mut kept, out) {
         turns -= 1;
     }
 }
 
 // The buffers: 480 records, and the replies.
-fn main() {
+fn main(rt: HostRuntime) {
     let mut buf = [0u8; 65280];
     let mut out = [0u8; 65536];
-    run(&mut buf, &mut out);
+    run(&rt, &mut rt.stdin(), &mut buf, &mut out);
 }

@@ -1,58 +1,75 @@
 // A room one byte short (document 01, "On both sides"): the job on standard input is answered twice, with just enough room for job 7's list and with one
 // byte less. For each it prints what came back and then every byte of the list in hex. The lists hold A5 in every byte beforehand.
+#![tactic(auto)]
+
+ghost use Rattle.std.specs.Prelude.{◌≤◌, length, IfOk};
+
 use job::Outcome;
-use libc::{STDIN_FILENO, STDOUT_FILENO};
+use std::io;
+use std::io::Read;
 
 // A number and a blank.
-fn print_number(n: u64) {
-    io::print_decimal(STDOUT_FILENO, n);
-    io::write_all(STDOUT_FILENO, b" ");
+fn print_number(rt: &impl Print, n: u64) -> io::Result<()> {
+    print!(rt; "{n} ")
 }
 
 // The intervals and the instants asked, or the refusal's number and field.
-fn print_outcome(o: Outcome) {
+fn print_outcome(rt: &impl Print, o: Outcome) -> io::Result<()> {
     match o {
         Outcome::Listed { intervals, asked } => {
-            io::write_all(STDOUT_FILENO, b"listed ");
-            print_number(intervals as u64);
-            print_number(asked);
+            print!(rt; "listed ")?;
+            print_number(rt, intervals as u64)?;
+            print_number(rt, asked)
         }
         Outcome::Refused(r) => {
-            io::write_all(STDOUT_FILENO, b"refused ");
-            print_number(refusal::number(r) as u64);
-            print_number(refusal::field(r) as u64);
+            print!(rt; "refused ")?;
+            print_number(rt, refusal::number(r) as u64)?;
+            print_number(rt, refusal::field(r) as u64)
         }
     }
 }
 
 // Two digits.
-fn print_byte(b: u8) {
-    io::print_hex(STDOUT_FILENO, b as u64, 2);
+fn print_byte(rt: &impl Print, b: u8) -> io::Result<()> {
+    print!(rt; "{b:02x}")
 }
 
 // A line of bytes.
-fn print_bytes(list: &[u8]) {
-    let mut i = 0;
-    while i < list.len() {
-        print_byte(list[i]);
-        i += 1;
+fn print_bytes(rt: &impl Print, list: &[u8]) -> io::Result<()> {
+    for b in list {
+        print_byte(rt, *b)?;
     }
-    io::write_all(STDOUT_FILENO, b"\n");
+    print!(rt; "\n")
 }
 
 // One job's outcome, and its list afterwards.
-fn show(s: &[u8], list: &mut [u8]) {
-    print_number(list.len() as u64);
-    print_outcome(job::list(s, list));
-    print_bytes(list);
+fn show(rt: &impl Print, s: &[u8], list: &mut [u8]) -> io::Result<()> {
+    print_number(rt, list.len() as u64)?;
+    print_outcome(rt, job::list(s, list))?;
+    print_bytes(rt, list)
+}
+
+// Reads until `buf` is full or the input ends; how many bytes it has then.
+fn fill(input: &mut impl Read, buf: &mut [u8]) -> io::Result<usize>
+    ensures { IfOk result (λ n. n ≤ length buf.new) }
+{
+    let mut n = 0;
+    while n < buf.len() {
+        let got = input.read(&mut buf[n..])?;
+        if got == 0 {
+            break;
+        }
+        n += got;
+    }
+    Ok(n)
 }
 
 // 12 steps ask for 24·7 bytes.
-fn main() {
+fn main(rt: HostRuntime) -> io::Result<()> {
     let mut s = [0u8; 136];
-    let n = io::read_full(STDIN_FILENO, &mut s);
+    let n = fill(&mut rt.stdin(), &mut s)?;
     let mut enough = [0xA5u8; 168];
-    show(&s[..n], &mut enough);
+    show(&rt, &s[..n], &mut enough)?;
     let mut short = [0xA5u8; 167];
-    show(&s[..n], &mut short);
+    show(&rt, &s[..n], &mut short)
 }

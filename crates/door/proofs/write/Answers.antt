@@ -6,15 +6,12 @@ use Rattle.door.specs.Answer.{answer_bytes, answer_in, Sized}
 use Rattle.door.proofs.Laws.{length-answer, answer_puts, answer_back}
 use Rattle.door.proofs.write.Goals as goal
 
--- each of the five numbers is one of its type
-sized : (c : goal.Start) → Sized c.args.a
-sized c =
-    let ok = c.well_formed in
-    record { refusal_fits = omega (arith, ok); field_fits = omega (arith, ok); number_fits = omega (arith, ok); intervals-fits = omega (arith, ok); asked-fits = omega (arith, ok) }
-
 pub returns : goal.returns
 returns c =
     let wrote =
     answer_puts c.args.answer.now c.args.a c.put4.ensures c.put4-2.ensures c.put8.ensures c.put8-2.ensures c.put8-3.ensures
     ∙ sets-all (answer_bytes c.args.a) c.args.answer.now (c.requires ∙ sym (length-answer c.args.a)) in
-    (wrote, ap answer_in wrote ∙ answer_back c.args.a (sized (goal.at.returns c).Start))
+    -- each of the five numbers is one of its type
+    let sized : Sized c.args.a =
+    record { refusal_fits = omega arith; field_fits = omega arith; number_fits = omega arith; intervals-fits = omega arith; asked-fits = omega arith } in
+    record { answer_after = wrote; answer_after_2 = ap answer_in wrote ∙ answer_back c.args.a sized }

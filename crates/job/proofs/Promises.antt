@@ -297,8 +297,8 @@ module _ (s old : List ℕ) (o : Outcome) (new : List ℕ) (job : Job s old o ne
     fits = list-fits w (good job h) f
 
     -- intervals in order, inside the window, at least one instant between neighbours
-    pub in_order : InOrder w.t0 l w.t1
-    in_order = list_in_order w (good job h) f
+    pub in-order : InOrder w.t0 l w.t1
+    in-order = list_in_order w (good job h) f
 
     -- a sample lies in an interval exactly if its answer is yes
     pub at-samples : (i : ℕ) → i ≤ steps_of w → listed l (sample_at w i) ≡ f (sample_at w i)
@@ -313,8 +313,8 @@ module _ (s old : List ℕ) (o : Outcome) (new : List ℕ) (job : Job s old o ne
         (s.e, s.from, before, s.low, s.high before, s.as_a, s.as_b)
 
     -- no other step holds one
-    pub no_change : (i : ℕ) → i < steps_of w → let a = sample_at w i in let b = sample_at w (suc i) in f a ≡ f b → (t : ℕ) → a ≤ t → t ≤ b → listed l t ≡ f a
-    no_change i below = still (list-step w (good job h) f i below)
+    pub no-change : (i : ℕ) → i < steps_of w → let a = sample_at w i in let b = sample_at w (suc i) in f a ≡ f b → (t : ℕ) → a ≤ t → t ≤ b → listed l t ≡ f a
+    no-change i below = still (list-step w (good job h) f i below)
 
     -- every first is t0, or the yes behind a change in a step whose ends differ
     pub each_first : (j : ℕ) → j < n → let t = (get_or l j (span 0 0)).first in
@@ -350,8 +350,8 @@ module _ (s old : List ℕ) (o : Outcome) (new : List ℕ) (job : Job s old o ne
     count-is = exactly.listed-asked s room (told job h)
 
     -- at most the samples and 20 a changed step
-    pub count_most : k ≤ steps_of w + 1 + 20 * changes_of f w
-    count_most = omega (arith, count-is, instants-most f w)
+    pub count-most : k ≤ steps_of w + 1 + 20 * changes_of f w
+    count-most = omega (arith, count-is, instants-most f w)
 
     -- of which there are at most 4,096
     pub steps-most : steps_of w ≤ most_steps

@@ -1,12 +1,15 @@
 // Prints where the craft of three orbit records on standard input are at twelve instants each, t0 + k·step: X, Y, d, hidden and up.
-ghost use Rattle.std.specs.Prelude.{◌≡◌, unsigned_abs};
+#![tactic(auto)]
+
+ghost use Rattle.std.specs.Prelude.{◌≡◌, ◌≤◌, length, IfOk, unsigned_abs};
 ghost use Rattle.elements.specs.Reading.{WholeRecord};
 ghost use Rattle.geometry.specs.Ready.{Ready};
 ghost use Rattle.sine.specs.Sine.{sines};
 
 use elements::reading::Reading;
 use geometry::Orbit;
-use libc::{STDIN_FILENO, STDOUT_FILENO};
+use std::io;
+use std::io::Read;
 
 // How far from 0 a signed number is. The lowest i64 has no negative, so −1 − z is taken.
 fn magnitude(z: i64) -> u64
@@ -16,78 +19,94 @@ fn magnitude(z: i64) -> u64
 }
 
 // A signed number and a blank.
-fn print(z: i64) {
+fn print(rt: &impl Print, z: i64) -> io::Result<()> {
     if z < 0 {
-        io::write_all(STDOUT_FILENO, b"-");
+        print!(rt; "-")?;
     }
-    io::print_decimal(STDOUT_FILENO, magnitude(z));
-    io::write_all(STDOUT_FILENO, b" ");
+    let n = magnitude(z);
+    print!(rt; "{n} ")
 }
 
 // The rest of a line: the time, X, Y, d, hidden or seen, up or down.
-fn line(t: &[u32], o: Orbit, at: u64)
+fn line(rt: &impl Print, t: &[u32], o: Orbit, at: u64) -> io::Result<()>
     requires { Ready t.now o }
 {
-    io::print_decimal(STDOUT_FILENO, at);
-    io::write_all(STDOUT_FILENO, b" ");
+    print!(rt; "{at} ")?;
     let a = geometry::place_of(t, o, at);
-    print(a.x);
-    print(a.y);
-    print(geometry::depth(o, a));
+    print(rt, a.x)?;
+    print(rt, a.y)?;
+    print(rt, geometry::depth(o, a))?;
     if geometry::hidden(t, o, at) {
-        io::write_all(STDOUT_FILENO, b"hidden ");
+        print!(rt; "hidden ")?;
     } else {
-        io::write_all(STDOUT_FILENO, b"seen ");
+        print!(rt; "seen ")?;
     }
     if geometry::up(t, o, at) {
-        io::write_all(STDOUT_FILENO, b"up\n");
+        println!(rt; "up")
     } else {
-        io::write_all(STDOUT_FILENO, b"down\n");
+        println!(rt; "down")
     }
 }
 
 // Twelve lines from t0 on, a step apart, under the record's job number.
-fn lines(t: &[u32], o: Orbit, s: &[u8])
+fn lines(rt: &impl Print, t: &[u32], o: Orbit, s: &[u8]) -> io::Result<()>
     requires { (Ready t.now o) × (WholeRecord s.now) }
 {
-    let job = words::read4(s, 0) as u64;
+    let job = words::read4(s, 0);
     let mut at = words::read8(s, 112);
     let step = words::read4(s, 128) as u64;
-    let mut left: u32 = 12;
-    while left > 0 {
-        io::print_decimal(STDOUT_FILENO, job);
-        io::write_all(STDOUT_FILENO, b" ");
-        line(t, o, at);
-        at = std::num::wrapping_add_u64(at, step);
-        left -= 1;
+    for _ in 0..12u32 {
+        print!(rt; "{job} ")?;
+        line(rt, t, o, at)?;
+        at = at.wrapping_add(step);
     }
+    Ok(())
 }
 
 // The lines of one record.
-fn show(t: &[u32], s: &[u8])
+fn show(rt: &impl Print, t: &[u32], s: &[u8]) -> io::Result<()>
     requires { t.now ≡ sines }
 {
     match elements::reading::read(s) {
-        Reading::Read(e) => lines(t, geometry::prepare(t, elements::rounding::rounded(e)), s),
-        Reading::Refused(_) => {
-            io::write_all(STDOUT_FILENO, b"refused\n");
-        }
+        Reading::Read(e) => lines(
+            rt,
+            t,
+            geometry::prepare(t, elements::rounding::rounded(e)),
+            s,
+        ),
+        Reading::Refused(_) => println!(rt; "refused"),
     }
 }
 
+// Reads until `buf` is full or the input ends; how many bytes it has then.
+fn fill(input: &mut impl Read, buf: &mut [u8]) -> io::Result<usize>
+    ensures { IfOk result (λ n. n ≤ length buf.new) }
+{
+    let mut n = 0;
+    while n < buf.len() {
+        let got = input.read(&mut buf[n..])?;
+        if got == 0 {
+            break;
+        }
+        n += got;
+    }
+    Ok(n)
+}
+
 // The next record's lines.
-fn next(t: &[u32])
+fn next(rt: &impl Print, input: &mut impl Read, t: &[u32]) -> io::Result<()>
     requires { t.now ≡ sines }
 {
     let mut s = [0u8; 136];
-    let n = io::read_full(STDIN_FILENO, &mut s);
-    show(t, &s[..n]);
+    let n = fill(input, &mut s)?;
+    show(rt, t, &s[..n])
 }
 
 // The table is made once and lent to each of the three records.
-fn main() {
+fn main(rt: HostRuntime) -> io::Result<()> {
     let t = sine::table();
-    next(&t);
-    next(&t);
-    next(&t);
+    let mut input = rt.stdin();
+    next(&rt, &mut input, &t)?;
+    next(&rt, &mut input, &t)?;
+    next(&rt, &mut input, &t)
 }

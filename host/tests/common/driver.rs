@@ -11,7 +11,7 @@ const LIMIT: Duration = Duration::from_secs(240);
 
 const RUN: &str = concat!(env!("CARGO_MANIFEST_DIR"), "/../tools/run");
 
-/// What a program that `rt check` built writes for its whole input. It says nothing on standard error.
+/// What a program that `tools/build` built writes for its whole input. It says nothing on standard error.
 pub fn built(name: &str, input: &[u8]) -> Vec<u8> {
     let mut program = started(name);
     feed(&mut program, input.to_vec());

@@ -9,12 +9,23 @@ ghost use Rattle.lists.specs.Replies.{piece_of, roomy_reply, replies_of, Begins,
 ghost use Rattle.lists.specs.Buffer.{tail_of, Filled, Kept};
 
 use std::io;
-use std::io::Read;
+use std::io::{ErrorKind, Read};
+use std::process::ExitCode;
 
 const RECORD: usize = 136;
 
 // 2,049 intervals and the closing record: the longest reply to a record
 const ROOM: usize = 49200;
+
+// What ends a run before its input has ended.
+#[derive(Clone, Copy)]
+enum Failure {
+    Input(io::Error),
+    Output(io::Error),
+}
+
+// The status that a shell gives a program which the system ended because nobody reads what it writes: 128, and SIGPIPE, 13.
+const READER_GONE: u8 = 141;
 
 // How many pieces were replied to, and in how many bytes.
 #[derive(Clone, Copy)]
@@ -57,36 +68,23 @@ fn replies(src: &[u8], out: &mut [u8]) -> Batch
     Batch { pieces: n, used }
 }
 
-// Says on standard error what failed and how. Where that fails too, nobody is left to tell.
-fn say(rt: &impl Eprint, what: &str, e: io::Error) {
-    let _ = eprintln!(rt; "{what}: {e}");
+// Writes `bytes`.
+fn written(rt: &impl Print, bytes: &[u8]) -> Result<(), Failure> {
+    rt.write_all(bytes).map_err(Failure::Output)
 }
 
-// Writes `bytes`; false where that failed, which is said on standard error.
-fn written(rt: &(impl Print + Eprint), bytes: &[u8]) -> bool {
-    match rt.write_all(bytes) {
-        Ok(()) => true,
-        Err(e) => {
-            say(rt, "lists: standard output", e);
-            false
-        }
-    }
-}
-
-// Answers every piece of `src`, by way of `out`; false where a write failed.
-fn reply_all(rt: &(impl Print + Eprint), src: &[u8], out: &mut [u8]) -> bool
+// Answers every piece of `src`, by way of `out`.
+fn reply_all(rt: &impl Print, src: &[u8], out: &mut [u8]) -> Result<(), Failure>
     requires { RoomBehind 0 out.old }
 {
     let mut at = 0;
     while at < src.len() {
         let b = replies(&src[at..], out);
         let used = b.used;
-        if !written(rt, &out[..used]) {
-            return false;
-        }
+        written(rt, &out[..used])?;
         at += RECORD * b.pieces;
     }
-    true
+    Ok(())
 }
 
 // Moves the last of the first `filled` bytes of `buf`, those of a record that has not come whole, to its start; how many they are.
@@ -107,50 +105,65 @@ fn keep(buf: &mut [u8], filled: usize) -> usize
 
 // One read behind the `kept` bytes of a record that has not come whole, and the replies to those that have; whether to go on.
 fn turn(
-    rt: &(impl Print + Eprint),
+    rt: &impl Print,
     input: &mut impl Read,
     buf: &mut [u8],
     kept: &mut usize,
     out: &mut [u8],
-) -> bool
+) -> Result<bool, Failure>
     requires { (Kept kept.old buf.old) × (RoomBehind 0 out.old) }
     ensures { Kept kept.new buf.new }
 {
     let from = *kept;
-    let got = match input.read(&mut buf[from..]) {
-        Ok(got) => got,
-        Err(e) => {
-            say(rt, "lists: standard input", e);
-            return false;
-        }
-    };
+    let got = input.read(&mut buf[from..]).map_err(Failure::Input)?;
     if got == 0 {
-        reply_all(rt, &buf[..from], out);
-        return false;
+        reply_all(rt, &buf[..from], out)?;
+        return Ok(false);
     }
     let filled = from + got;
     let whole = filled - filled % RECORD;
-    if !reply_all(rt, &buf[..whole], out) {
-        return false;
-    }
+    reply_all(rt, &buf[..whole], out)?;
     *kept = keep(buf, filled);
-    true
+    Ok(true)
 }
 
 // A proved loop has to end, so it counts its turns down, from a number that no run uses up.
-fn run(rt: &(impl Print + Eprint), input: &mut impl Read, buf: &mut [u8], out: &mut [u8])
+fn run(
+    rt: &impl Print,
+    input: &mut impl Read,
+    buf: &mut [u8],
+    out: &mut [u8],
+) -> Result<(), Failure>
     requires { (Kept 0 buf.old) × (RoomBehind 0 out.old) }
 {
     let mut turns = u64::MAX;
     let mut kept = 0;
-    while turns > 0 && turn(rt, input, buf, &mut kept, out) {
+    while turns > 0 && turn(rt, input, buf, &mut kept, out)? {
         turns -= 1;
     }
+    Ok(())
+}
+
+// Says on standard error what failed and how; the program's status. Where nobody reads the output any more, nothing is said.
+fn told(rt: &impl Eprint, failure: Failure) -> ExitCode {
+    let _ = match failure {
+        Failure::Input(e) => eprintln!(rt; "lists: standard input: {e}"),
+        Failure::Output(e) => {
+            if e.kind() == ErrorKind::BrokenPipe {
+                return ExitCode::from(READER_GONE);
+            }
+            eprintln!(rt; "lists: standard output: {e}")
+        }
+    };
+    ExitCode::SUCCESS
 }
 
 // The buffers: 480 records, and the replies.
-fn main(rt: HostRuntime) {
+fn main(rt: HostRuntime) -> ExitCode {
     let mut buf = [0u8; 65280];
     let mut out = [0u8; 65536];
-    run(&rt, &mut rt.stdin(), &mut buf, &mut out);
+    match run(&rt, &mut rt.stdin(), &mut buf, &mut out) {
+        Ok(()) => ExitCode::SUCCESS,
+        Err(failure) => told(&rt, failure),
+    }
 }

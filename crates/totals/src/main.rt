@@ -1,5 +1,7 @@
 // The program: orbit records on standard input, and for each a head record and the totals of its list by day on standard output (document 02, wish 3).
 // No contract can say what is read or written. What the contracts say is what stands in the buffers between the two.
+#![tactic(auto)]
+
 ghost use Rattle.std.specs.Prelude.{◌≡◌, length};
 ghost use Rattle.std.proofs.lemmas.List.Edits.{sets};
 ghost use Rattle.io.specs.Counts.{IsPrefixLen};
@@ -8,7 +10,9 @@ ghost use Rattle.totals.specs.Reply.{reply_of, HoldsAnyList, HoldsAnyReply, Kept
 
 use days::Totals;
 use job::Outcome;
-use libc::{STDIN_FILENO, STDOUT_FILENO};
+use std::io;
+use std::io::{ErrorKind, Read};
+use std::process::ExitCode;
 
 const RECORD: usize = 136;
 
@@ -19,6 +23,16 @@ const INTERVAL: usize = 24;
 
 // Bytes of a day's record.
 const DAY_RECORD: usize = 16;
+
+// What ends a run before its input has ended.
+#[derive(Clone, Copy)]
+enum Failure {
+    Input(io::Error),
+    Output(io::Error),
+}
+
+// The status that a shell gives a program which the system ended because nobody reads what it writes: 128, and SIGPIPE, 13.
+const READER_GONE: u8 = 141;
 
 // How many days were written.
 fn written(t: Totals) -> usize
@@ -54,59 +68,83 @@ fn reply(s: &[u8], list: &mut [u8], out: &mut [u8]) -> usize
     }
 }
 
-// Writes the reply to a piece, by way of `list` and `out`; false where that failed, which is said on standard error.
-fn answer(s: &[u8], list: &mut [u8], out: &mut [u8]) -> bool
+// Writes the reply to a piece, by way of `list` and `out`.
+fn answer(rt: &impl Print, s: &[u8], list: &mut [u8], out: &mut [u8]) -> Result<(), Failure>
     requires { (HoldsAnyList list.old) × (HoldsAnyReply out.old) }
 {
     let n = reply(s, list, out);
-    if io::write_all(STDOUT_FILENO, &out[..n]) {
-        return true;
-    }
-    os::fail(b"totals: standard output");
-    false
+    rt.write_all(&out[..n]).map_err(Failure::Output)
 }
 
 // One read behind the `kept` bytes of a record that has not come whole, and the reply once it has, or to what there is of it at the end; whether to go on.
-fn turn(record: &mut [u8], kept: &mut usize, list: &mut [u8], out: &mut [u8]) -> bool
+fn turn(
+    rt: &impl Print,
+    input: &mut impl Read,
+    record: &mut [u8],
+    kept: &mut usize,
+    list: &mut [u8],
+    out: &mut [u8],
+) -> Result<bool, Failure>
     requires { (Kept kept.old «record».old) × (HoldsAnyList list.old) × (HoldsAnyReply out.old) }
     ensures { Kept kept.new «record».new }
 {
     let from = *kept;
-    let got = libc::read(STDIN_FILENO, &mut record[from..]);
-    if got < 0 {
-        os::fail(b"totals: standard input");
-        return false;
-    }
+    let got = input.read(&mut record[from..]).map_err(Failure::Input)?;
     if got == 0 {
         if from > 0 {
-            answer(&record[..from], list, out);
+            answer(rt, &record[..from], list, out)?;
         }
-        return false;
+        return Ok(false);
     }
-    let filled = from + io::count(got, &record[from..]);
+    let filled = from + got;
     if filled < RECORD {
         *kept = filled;
-        return true;
+        return Ok(true);
     }
     *kept = 0;
-    answer(record, list, out)
+    answer(rt, record, list, out)?;
+    Ok(true)
 }
 
 // A proved loop has to end, so it counts its turns down, from a number that no run uses up.
-fn run(record: &mut [u8], list: &mut [u8], out: &mut [u8])
+fn run(
+    rt: &impl Print,
+    input: &mut impl Read,
+    record: &mut [u8],
+    list: &mut [u8],
+    out: &mut [u8],
+) -> Result<(), Failure>
     requires { (Kept 0 «record».old) × (HoldsAnyList list.old) × (HoldsAnyReply out.old) }
 {
     let mut turns = u64::MAX;
     let mut kept = 0;
-    while turns > 0 && turn(record, &mut kept, list, out) {
+    while turns > 0 && turn(rt, input, record, &mut kept, list, out)? {
         turns -= 1;
     }
+    Ok(())
+}
+
+// Says on standard error what failed and how; the program's status. Where nobody reads the output any more, nothing is said.
+fn told(rt: &impl Eprint, failure: Failure) -> ExitCode {
+    let _ = match failure {
+        Failure::Input(e) => eprintln!(rt; "totals: standard input: {e}"),
+        Failure::Output(e) => {
+            if e.kind() == ErrorKind::BrokenPipe {
+                return ExitCode::from(READER_GONE);
+            }
+            eprintln!(rt; "totals: standard output: {e}")
+        }
+    };
+    ExitCode::SUCCESS
 }
 
 // The buffers: a record, its list of at most 2,049 intervals, and the reply, a head and at most 32 days.
-fn main() {
+fn main(rt: HostRuntime) -> ExitCode {
     let mut record = [0u8; 136];
     let mut list = [0u8; 49176];
     let mut out = [0u8; 536];
-    run(&mut record, &mut list, &mut out);
+    match run(&rt, &mut rt.stdin(), &mut record, &mut list, &mut out) {
+        Ok(()) => ExitCode::SUCCESS,
+        Err(failure) => told(&rt, failure),
+    }
 }

@@ -1,7 +1,7 @@
 /*
  * Quechotzal: when a small craft is hidden by its planet, and when a dish can see it, as a proved list; and of any such list the totals by day.
  *
- * What is declared here is in the static library of the crate `door` (`tools/door` writes target/staticlib/libdoor.a, for x86-64 Linux).
+ * What is declared here is in the static library of the crate `door_c` (`tools/door` writes target/staticlib/libdoor.a, for x86-64 Linux).
  * docs/RULES.md has the rules by which a list is made, docs/PROMISES.md what it may be relied on for. All numbers are little-endian.
  *
  * What a caller owes, and nothing checks: each pointer is not null (even where its length is 0), points to as many bytes as its length says, of

@@ -1,5 +1,5 @@
-// The door for C, Rust and Python: numbers and byte slices only, each function thin over `job` or `days`. include/quechotzal.h says the same to a C
-// programmer.
+// The door for C, Rust and Python: numbers and byte slices only, each function thin over `job` or `days`. The crate `door_c` exports them, and
+// include/quechotzal.h says the same to a C programmer.
 #![tactic(auto)]
 
 ghost use Rattle.std.specs.Prelude.{◌≡◌};
@@ -84,8 +84,7 @@ fn write(answer: &mut [u8], a: Answer)
 
 // One job: its intervals in `list` from byte 0, or why it is turned away and `list` as it was; what came of it in `answer`, and 1. Where
 // `answer` is not 32 bytes nothing is written, and it returns 0.
-#[unsafe(no_mangle)]
-pub extern "C" fn quechotzal_list(record: &[u8], list: &mut [u8], answer: &mut [u8]) -> u32
+pub fn quechotzal_list(record: &[u8], list: &mut [u8], answer: &mut [u8]) -> u32
     ensures value { result ≡ returned_of answer.old }
     ensures list_after { list.new ≡ behind answer.old (list_after_of «record».now list.old) list.old }
     ensures answer_after { answer.new ≡ answer_behind answer.old (list_told «record».now list.old) }
@@ -100,13 +99,7 @@ pub extern "C" fn quechotzal_list(record: &[u8], list: &mut [u8], answer: &mut [
 
 // The totals of a list by day: the summary in `out` from byte 0, or why it is turned away and `out` as it was; what came of it in `answer`, where the days
 // stand for the intervals, and 1. Where `answer` is not 32 bytes nothing is written, and it returns 0.
-#[unsafe(no_mangle)]
-pub extern "C" fn quechotzal_days(
-    record: &[u8],
-    list: &[u8],
-    out: &mut [u8],
-    answer: &mut [u8],
-) -> u32
+pub fn quechotzal_days(record: &[u8], list: &[u8], out: &mut [u8], answer: &mut [u8]) -> u32
     ensures value { result ≡ returned_of answer.old }
     ensures out_after { out.new ≡ behind answer.old (summary_after_of «record».now list.now out.old) out.old }
     ensures answer_after { answer.new ≡ answer_behind answer.old (days_told «record».now list.now out.old) }
@@ -121,8 +114,7 @@ pub extern "C" fn quechotzal_days(
 
 // One later interval, appended to the list whose summary is lent: the days that it touches are rewritten, or `summary` stays as it was; what came of it
 // in `answer`, and 1, as of `quechotzal_days`.
-#[unsafe(no_mangle)]
-pub extern "C" fn quechotzal_append(
+pub fn quechotzal_append(
     record: &[u8],
     list: &[u8],
     interval: &[u8],

@@ -31,7 +31,7 @@ fn main() {
 #[cfg(not(door))]
 fn main() {
     println!(
-        "the door is not linked: its archive, which `rt staticlib door` writes, is for x86-64"
+        "the door is not linked: its archive, which `tools/door` writes, is for x86-64"
     );
     println!("QUECHOTZAL_DOOR may name an archive for the machine at hand");
     println!("nothing is measured");

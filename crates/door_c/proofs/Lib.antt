@@ -1,0 +1,2 @@
+-- That the contracts of `door_c` leave one answer.
+pub mod Only

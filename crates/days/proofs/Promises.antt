@@ -1,10 +1,10 @@
 -- What is promised of the totals by day: each part a theorem about the contracts of `days::summary` and `days::append`, for every record's bytes,
 -- every list's bytes and every lent summary. docs/PROMISES.md leads here. The statements' words stand in
---   totalsOf, appendOf, summaryAfter, appendAfter, numbersOf   days/specs/Totals.antt      spansOf, spanAt, badList, badAppend   days/specs/Given.antt
---   touches, touching, instantsIn, sumFrom, instantsListed     days/specs/Counts.antt      summaryOf, dayRecord                  days/specs/Summary.antt
---   outcomeOf, listAfter, answersIn                            job/specs/Outcome.antt      dayOf, daysOf, mostDays               days/specs/Days.antt
---   admissionOf                                                job/specs/Admission.antt    windowOf                              job/specs/Table.antt
---   InOrder, list_of, roomForAny                                finder/specs                read_of                                words/specs/Little.antt
+--   totals_of, append_of, summary_after_of, append_after, numbers_of   days/specs/Totals.antt     spans_of, span_at, bad_list, bad_append   days/specs/Given.antt
+--   touches, touching, instants_in, sum_from, instants_listed          days/specs/Counts.antt     summary_of, day_record                    days/specs/Summary.antt
+--   outcome_of, list_after_of, answers_in                              job/specs/Outcome.antt     day_of, days_of, most_days                days/specs/Days.antt
+--   admission_of                                                       job/specs/Admission.antt   window_of                                 job/specs/Table.antt
+--   InOrder, list_of, room_for_any                                     finder/specs               read_of                                   words/specs/Little.antt
 use Prim.Native.Nat.{ℕ, ◌+◌, ◌*◌, ◌≤◌, ◌<◌, ◌%◌}
 use mathlib.Core.Path.{◌≡◌, refl, sym, ap, ◌∙◌}
 use mathlib.Core.Logic.{◌↔◌}

@@ -1,15 +1,15 @@
 -- What is promised of one job: theorems about the contract of `job::list`, for every record's bytes and every lent list, and one about Kepler's search.
 -- docs/PROMISES.md leads here. The proofs are a line or two each: they cite the laws that show them. The statements' words stand in
---   outcomeOf, listAfter, intervalsOf, asked_of, answersIn   job/specs/Outcome.antt          table_of, windowOf, questionOf       job/specs/Table.antt
---   Gives, Passes, row_at                                   refusal/specs/Rows.antt         number_of, field_of, value_of, bits_of  refusal/specs/Refusal.antt
---   float_of, bitsIn, Returns, Accepted                     elements/specs                  hiddenAt, upAt                      geometry/specs
---   steps_of, sampleAt                                      finder/specs/Samples.antt       list_of                              finder/specs/Spans.antt
---   instantsOf, changesOf                                  finder/specs/Asked.antt         recordsOf, intervalOf, roomForAny   finder/specs/Records.antt
---   Fits, InOrder, listed, Changes                         finder/specs/Fits.antt          recordBytes, parsedOf               interval/specs/Record.antt
---   has, Says, Why                                         finder/specs/Flags.antt         FirstAsked, LastAsked               finder/specs/Asked.antt
---   Alike                                                  halving/specs/Halving.antt      sightsIn, orbitWith                 job/specs/Outcome.antt
---   answerAt, sightAt, τBy, τOf                            geometry/specs                  searchOf                            kepler/specs/Kepler.antt
---   seenFrom, turnedBy                                     geometry/specs/Elsewhere.antt
+--   outcome_of, list_after_of, intervals_of, asked_of, answers_in   job/specs/Outcome.antt          table_of, window_of, question_of         job/specs/Table.antt
+--   Gives, Passes, row_at                                           refusal/specs/Rows.antt         number_of, field_of, value_of, bits_of   refusal/specs/Refusal.antt
+--   float_of, bits_in, Returns, Accepted                            elements/specs                  hidden_at, up_at                         geometry/specs
+--   steps_of, sample_at                                             finder/specs/Samples.antt       list_of                                  finder/specs/Spans.antt
+--   instants_of, changes_of                                         finder/specs/Asked.antt         records_of, interval_of, room_for_any    finder/specs/Records.antt
+--   Fits, InOrder, listed, Changes                                  finder/specs/Fits.antt          record_bytes, parsed_of                  interval/specs/Record.antt
+--   has, Says, Why                                                  finder/specs/Flags.antt         FirstAsked, LastAsked                    finder/specs/Asked.antt
+--   Alike                                                           halving/specs/Halving.antt      sights_in, orbit_with                    job/specs/Outcome.antt
+--   answer_at, sight_at, τBy, τOf                                   geometry/specs                  search_of                                kepler/specs/Kepler.antt
+--   seen_from, turned_by                                            geometry/specs/Elsewhere.antt
 use Prim.Native.Nat.{ℕ, suc, ◌+◌, ◌*◌, ◌≤◌, ◌<◌}
 use mathlib.Core.Path.{◌≡◌, refl, sym, ap, subst, fun_ext, ◌∙◌}
 use mathlib.Core.Logic.{◌↔◌, ◌⊎◌, ◌≢◌}

@@ -1,5 +1,5 @@
 -- For the contracts of private functions, no rule of document 01: the size of a float of at most 2 ^ 21 by its pattern b is
--- digitsOf b / 2 ^ shift_of b (proofs/Exact.antt).
+-- digits_of b / 2 ^ shift_of b (proofs/Exact.antt).
 use Rattle.std.specs.Prelude.{ℕ, zero, suc, ◌+◌, ◌-◌, ◌/◌, ◌%◌, ◌^◌, ◌≤◌, ◌<◌, Float}
 use Rattle.nearest.specs.Nearest.{UpTo}
 

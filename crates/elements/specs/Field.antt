@@ -1,14 +1,12 @@
 -- One field of the orbit record: its bits, its float, what is accepted, and its row (document 01, "What the desk feeds and gets" and "Turned away").
-use Rattle.std.specs.Prelude.{Bool, ◌&&◌, not, cond, List, ℕ, ◌*◌, Float}
+use Rattle.std.specs.Prelude.{Bool, ◌&&◌, not, cond, List, ℕ, ◌*◌, Float, Err}
 use Rattle.std.specs.Float.{binary64}
 use Rattle.std.specs.Float.Ieee.{of_bits, neg, le, lt}
 use Rattle.std.specs.Float.Ieee.Scale.{finite}
 use Rattle.words.specs.Little.{read_of, Holds}
 use Rattle.nearest.specs.Nearest.{decimal, number}
-use Rattle.refusal.specs.Rows.{when}
+use Rattle.refusal.specs.Rows.{Verdict, when}
 use Rattle.refusal.specs.declared.Refusal.TheVariants.{NotFinite, OutOfRange}
-use Rattle.refusal.specs.declared.Verdict.{Verdict}
-use Rattle.refusal.specs.declared.Verdict.TheVariants.{Refused}
 
 -- field k stands at 8 + 8·(k−1), which is 8·k for k from 1
 abbrev pub field_at : ℕ → ℕ
@@ -71,7 +69,7 @@ elevation_in x = within (number 0) (number 90) x
 
 -- field k with the float x: 3 where it is NaN or infinite, with its bits; 4 where it is finite and not accepted
 unfoldable pub judge : List ℕ → ℕ → Float → Bool → Verdict
-judge s k x accepted = cond (finite x) (when (not accepted) (OutOfRange k x)) (Refused (NotFinite k x (bits_in s k)))
+judge s k x accepted = cond (finite x) (when (not accepted) (OutOfRange k x)) (Err (NotFinite k x (bits_in s k)))
 
 -- its row, by what is accepted
 abbrev pub field_row_of : List ℕ → ℕ → Float → (Float → Bool) → Verdict

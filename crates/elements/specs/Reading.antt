@@ -1,18 +1,14 @@
 -- What a record reads as: the elements, or the first refusal of 1 to 5 that applies (document 01, "Turned away").
-use Rattle.std.specs.Prelude.{not, List, [], ◌∷◌, ◌++◌, ◌≡◌, ℕ, ◌<◌, eqb, length}
+use Rattle.std.specs.Prelude.{not, List, [], ◌∷◌, ◌++◌, ◌≡◌, ℕ, ◌<◌, eqb, length, Result, Ok, Err}
 use Rattle.std.specs.Float.Ieee.{lt}
 use Rattle.words.specs.Little.{read_of}
 use Rattle.refusal.specs.Refusal.{field_of, value_of, bits_of}
-use Rattle.refusal.specs.Rows.{when, first}
+use Rattle.refusal.specs.Rows.{Verdict, when, first}
 use Rattle.refusal.specs.declared.Refusal.{Refusal}
 use Rattle.refusal.specs.declared.Refusal.TheVariants.{Length, Word, TooClose}
-use Rattle.refusal.specs.declared.Verdict.{Verdict}
-use Rattle.refusal.specs.declared.Verdict.TheVariants as verdict
 use Rattle.elements.specs.Field.{bits_in, float_of, axis_in, eccentricity_in, inclination_in, turn_in, period_in, radius_in, latitude_in, elevation_in, field_row_of}
 use Rattle.elements.specs.Closest.{closest_of}
 use Rattle.elements.specs.declared.reading.Elements.{Elements}
-use Rattle.elements.specs.declared.reading.Reading.{Reading}
-use Rattle.elements.specs.declared.reading.Reading.TheVariants.{Read, Refused}
 
 -- 136 bytes
 abbrev pub WholeRecord : List ℕ → Type 0
@@ -86,11 +82,11 @@ record_rows s = length_row s ∷ rows_from s (elements_of s)
 -- ---- the reading
 
 -- a reading answers either with the elements, or with the refusal
-abbrev pub read_from : Verdict → Elements → Reading
-read_from verdict.Passed e = Read e
-read_from (verdict.Refused r) e = Refused r
+abbrev pub read_from : Verdict → Elements → Result Elements Refusal
+read_from (Ok t) e = Ok e
+read_from (Err r) e = Err r
 
-unfoldable pub reading_of : List ℕ → Reading
+unfoldable pub reading_of : List ℕ → Result Elements Refusal
 reading_of s = read_from (first (record_rows s)) (elements_of s)
 
 -- what a refusal of the record s returns where it names field k: its float, and its bits

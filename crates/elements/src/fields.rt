@@ -5,7 +5,8 @@ ghost use Rattle.std.specs.Float.Ieee.{of_bits};
 ghost use Rattle.std.specs.Float.Ieee.Scale.{finite};
 ghost use Rattle.elements.specs.Field.{within, turn_in, HasField, float_of, judge, field_row_of};
 
-use refusal::{Refusal, Verdict, row};
+use refusal::{Refusal, row};
+use words::Word;
 
 // The float that a pattern is, a NaN's too, which `from_bits` does not take.
 fn value(bits: u64) -> f64
@@ -23,7 +24,7 @@ pub fn float(s: &[u8], k: u32) -> f64
     requires { HasField s.now k }
     ensures { result ≡ float_of s.now k }
 {
-    value(words::read8(s, 8 * k as usize))
+    value(u64::read(s, 8 * k as usize))
 }
 
 // Neither a NaN nor infinite: a NaN is on no side of anything.
@@ -49,23 +50,22 @@ fn is_turn(x: f64) -> bool
 }
 
 // Field k with the float x: refusal 3 comes before refusal 4. The bytes are looked at again only for refusal 3, for a NaN's own bits.
-fn judged(s: &[u8], k: u32, x: f64, accepted: bool) -> Verdict
+fn judged(s: &[u8], k: u32, x: f64, accepted: bool) -> Result<(), Refusal>
     requires { HasField s.now k }
     ensures { result ≡ judge s.now k x accepted }
 {
     if is_finite(x) {
-        row(!accepted, Refusal::OutOfRange { field: k, value: x })
-    } else {
-        Verdict::Refused(Refusal::NotFinite {
-            field: k,
-            value: x,
-            bits: words::read8(s, 8 * k as usize),
-        })
+        return row(!accepted, Refusal::OutOfRange { field: k, value: x });
     }
+    Err(Refusal::NotFinite {
+        field: k,
+        value: x,
+        bits: u64::read(s, 8 * k as usize),
+    })
 }
 
 // Field k with the float x, accepted from `low` to `high`.
-pub fn field(s: &[u8], k: u32, x: f64, low: f64, high: f64) -> Verdict
+pub fn field(s: &[u8], k: u32, x: f64, low: f64, high: f64) -> Result<(), Refusal>
     requires { HasField s.now k }
     ensures { result ≡ field_row_of s.now k x (within low high) }
 {
@@ -73,7 +73,7 @@ pub fn field(s: &[u8], k: u32, x: f64, low: f64, high: f64) -> Verdict
 }
 
 // Field k with the float x, an angle from 0 up to, not with, 360.
-pub fn turn(s: &[u8], k: u32, x: f64) -> Verdict
+pub fn turn(s: &[u8], k: u32, x: f64) -> Result<(), Refusal>
     requires { HasField s.now k }
     ensures { result ≡ field_row_of s.now k x turn_in }
 {

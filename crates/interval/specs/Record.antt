@@ -1,10 +1,8 @@
 -- The interval record's bytes (document 01, "What the desk feeds and gets", interval record).
-use Rattle.std.specs.Prelude.{ℕ, ◌^◌, ◌<◌, List, ◌++◌, cond, eqb, length}
+use Rattle.std.specs.Prelude.{ℕ, ◌^◌, ◌<◌, List, ◌++◌, cond, eqb, length, Option, Some, None}
 use Rattle.std.proofs.lemmas.List.Edits.{sets}
 use Rattle.words.specs.Little.{bytes_of, read_of}
 use Rattle.interval.specs.declared.Interval.{Interval}
-use Rattle.interval.specs.declared.Parsed.{Parsed}
-use Rattle.interval.specs.declared.Parsed.TheVariants.{Record, NoRecord}
 
 -- 24 bytes: job u32, flags u32, first u64, last u64
 unfoldable pub record_bytes : Interval → List ℕ
@@ -15,8 +13,8 @@ unfoldable pub record_of : List ℕ → Interval
 record_of s = record { job = read_of 4 s 0; flags = read_of 4 s 4; first = read_of 8 s 8; last = read_of 8 s 16 }
 
 -- any 24 bytes read as one record; any other length answers that there is no record
-unfoldable pub parsed_of : List ℕ → Parsed
-parsed_of s = cond (eqb (length s) 24) (Record (record_of s)) NoRecord
+unfoldable pub parsed_of : List ℕ → Option Interval
+parsed_of s = cond (eqb (length s) 24) (Some (record_of s)) None
 
 -- s with the record in its 24 bytes from `at` on, and every other byte as it was
 unfoldable pub write_of : List ℕ → ℕ → Interval → List ℕ

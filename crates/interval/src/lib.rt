@@ -5,8 +5,10 @@ ghost use Rattle.std.specs.Prelude.{◌≡◌};
 ghost use Rattle.words.specs.Little.{Holds};
 ghost use Rattle.interval.specs.Record.{write_of, parsed_of};
 
+use words::Word;
+
 // An interval of a list, both of whose instants belong to it; or what closes a job's intervals.
-#[derive(Clone, Copy)]
+#[derive(Clone, Copy, Debug, PartialEq, Eq)]
 pub struct Interval {
     pub job: u32,
     pub flags: u32,
@@ -14,35 +16,28 @@ pub struct Interval {
     pub last: u64,
 }
 
-// What bytes read as.
-#[derive(Clone, Copy)]
-pub enum Parsed {
-    Record(Interval),
-    NoRecord,
-}
-
 // The record in the 24 bytes from `at` on; the other bytes stay.
 pub fn write(s: &mut [u8], at: usize, r: Interval)
     requires { Holds 24 s.old at }
     ensures { s.new ≡ write_of s.old at r }
 {
-    words::put4(s, at, r.job);
-    words::put4(s, at + 4, r.flags);
-    words::put8(s, at + 8, r.first);
-    words::put8(s, at + 16, r.last);
+    r.job.put(s, at);
+    r.flags.put(s, at + 4);
+    r.first.put(s, at + 8);
+    r.last.put(s, at + 16);
 }
 
 // The record that 24 bytes are; any other number of bytes is none.
-pub fn read(s: &[u8]) -> Parsed
+pub fn read(s: &[u8]) -> Option<Interval>
     ensures { result ≡ parsed_of s.now }
 {
     if s.len() != 24 {
-        return Parsed::NoRecord;
+        return None;
     }
-    Parsed::Record(Interval {
-        job: words::read4(s, 0),
-        flags: words::read4(s, 4),
-        first: words::read8(s, 8),
-        last: words::read8(s, 16),
+    Some(Interval {
+        job: u32::read(s, 0),
+        flags: u32::read(s, 4),
+        first: u64::read(s, 8),
+        last: u64::read(s, 16),
     })
 }

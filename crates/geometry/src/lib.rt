@@ -1,12 +1,11 @@
-// The answer at one instant, from whole numbers to yes or no, and what tells why. `t` is the sine table, lent.
+// The answer at one instant, from whole numbers to yes or no, and what tells why.
 #![tactic(auto)]
 
 ghost use Rattle.std.specs.Prelude.{◌≡◌};
 ghost use Rattle.fixed.specs.Within.{Within};
-ghost use Rattle.sine.specs.Sine.{sines};
 ghost use Rattle.elements.specs.Rounding.{Bounded};
 ghost use Rattle.geometry.specs.Prepared.{minor_of, ellipse_of, rotation_for, toward_of, body_of, station_of, orbit_of};
-ghost use Rattle.geometry.specs.Ready.{Ready, InOrbit, deepest};
+ghost use Rattle.geometry.specs.Ready.{InOrbit, deepest};
 ghost use Rattle.geometry.specs.Placed.{anomaly_of, place_of};
 ghost use Rattle.geometry.specs.Hidden.{depth_of, behind_of, hidden_at};
 ghost use Rattle.geometry.specs.Visible.{term_at, zenith_of, up_at, visible_at, answer_at};
@@ -15,6 +14,8 @@ ghost use Rattle.geometry.specs.Sight.{sight_at, Answered};
 use angle::Angle;
 use elements::rounding::Wholes;
 use rotation::Turn;
+use sine::Sines;
+use std::marker::Model;
 
 // The ellipse, and the planet in it: a, e, a∘q, the period and R².
 #[derive(Clone, Copy)]
@@ -64,6 +65,23 @@ pub struct Sight {
     pub up: bool,
 }
 
+// A job's orbit with the sine table that reads it. Its numbers are as small as those of accepted elements.
+pub struct Sky<'a> {
+    sines: &'a Sines,
+    orbit: Orbit,
+}
+
+impl Model for Sky<'_> {
+    ghost use Rattle.geometry.specs.declared.Orbit.{Orbit};
+    ghost use Rattle.geometry.specs.Ready.{SoundOrbit};
+
+    ghost Value = { Orbit };
+
+    ghost view = { λ k. k.orbit };
+
+    ghost invariant = { λ k. SoundOrbit k.orbit };
+}
+
 // 2^60.
 const ONE_SQUARED: u64 = 1_152_921_504_606_846_976;
 
@@ -95,35 +113,32 @@ fn ellipse_of(w: Wholes) -> Ellipse
 }
 
 // The rotation of the elements, as three rows of three, built once for a job.
-pub fn rotation_of(t: &[u32], w: Wholes) -> [[i64; 3]; 3]
-    requires { t.now ≡ sines }
+pub fn rotation_of(sines: &Sines, w: Wholes) -> [[i64; 3]; 3]
     ensures { result ≡ rotation_for w }
 {
     rotation::rotation(
-        rotation::turn_of(t, w.periapsis),
-        rotation::turn_of(t, w.node),
-        rotation::turn_of(t, w.inclination),
+        rotation::turn_of(sines, w.periapsis),
+        rotation::turn_of(sines, w.node),
+        rotation::turn_of(sines, w.inclination),
     )
 }
 
 // E, the body direction.
-fn toward(t: &[u32], w: Wholes) -> [i64; 3]
-    requires { t.now ≡ sines }
+fn toward(sines: &Sines, w: Wholes) -> [i64; 3]
     ensures { result ≡ toward_of w }
 {
     rotation::direction(
-        rotation::turn_of(t, w.ascension),
-        rotation::turn_of(t, w.declination),
+        rotation::turn_of(sines, w.ascension),
+        rotation::turn_of(sines, w.declination),
     )
 }
 
 // Ep, Eq and E.
-fn body_of(t: &[u32], w: Wholes) -> Body
-    requires { t.now ≡ sines }
+fn body_of(sines: &Sines, w: Wholes) -> Body
     ensures { result ≡ body_of w }
 {
-    let m = rotation_of(t, w);
-    let e = toward(t, w);
+    let m = rotation_of(sines, w);
+    let e = toward(sines, w);
     Body {
         p: fixed::dot(m[0], e),
         q: fixed::dot(m[1], e),
@@ -132,154 +147,147 @@ fn body_of(t: &[u32], w: Wholes) -> Body
 }
 
 // The station's turn of latitude, longitude + Greenwich, and the sine of field 13.
-fn station_of(t: &[u32], w: Wholes) -> Station
-    requires { t.now ≡ sines }
+fn station_of(sines: &Sines, w: Wholes) -> Station
     ensures { result ≡ station_of w }
 {
     Station {
-        latitude: rotation::turn_of(t, w.latitude),
+        latitude: rotation::turn_of(sines, w.latitude),
         meridian: w.longitude.add(w.greenwich),
-        least: sine::sine(t, w.elevation),
+        least: sines.sine(w.elevation),
     }
-}
-
-// What is fixed for a job, made once.
-pub fn prepare(t: &[u32], w: Wholes) -> Orbit
-    requires { (t.now ≡ sines) × (Bounded w) }
-    ensures { result ≡ orbit_of w }
-{
-    Orbit {
-        ellipse: ellipse_of(w),
-        body: body_of(t, w),
-        station: station_of(t, w),
-    }
-}
-
-// E of Kepler's equation, the eccentric anomaly at an instant, from M.
-fn anomaly(t: &[u32], o: Orbit, at: u64) -> Angle
-    requires { Ready t.now o }
-    ensures { result.units ≡ anomaly_of o at }
-{
-    let m = kepler::phase(o.ellipse.period, at);
-    kepler::eccentric(t, o.ellipse.eccentricity, m)
-}
-
-// The place at an instant.
-pub fn place_of(t: &[u32], o: Orbit, at: u64) -> Place
-    requires { Ready t.now o }
-    ensures { result ≡ place_of o at }
-{
-    let l = o.ellipse;
-    let e = anomaly(t, o, at);
-    let cos = sine::cosine(t, e);
-    let sin = sine::sine(t, e);
-    let x = fixed::scaled(l.axis, cos - l.eccentricity as i64);
-    let y = fixed::scaled(l.minor, sin);
-    Place { x, y }
-}
-
-// d: how far a place lies toward the far body.
-pub fn depth(o: Orbit, a: Place) -> i64
-    requires { InOrbit o a }
-    ensures { result ≡ depth_of o a }
-{
-    let b = o.body;
-    fixed::scaled(a.x, b.p) + fixed::scaled(a.y, b.q)
-}
-
-// Whether a place at depth d is hidden: d² goes to the other side, where it fits 64 bits.
-fn behind(o: Orbit, a: Place, d: i64) -> bool
-    requires { (InOrbit o a) × (Within d deepest) }
-    ensures { result ≡ behind_of o a d }
-{
-    if d < 0 {
-        let deep = (-d) as u64;
-        let square = (a.x * a.x + a.y * a.y) as u64;
-        square < o.ellipse.radius2 + deep * deep
-    } else {
-        false
-    }
-}
-
-// Whether the planet hides the far body at an instant.
-pub fn hidden(t: &[u32], o: Orbit, at: u64) -> bool
-    requires { Ready t.now o }
-    ensures { result ≡ hidden_at o at }
-{
-    let a = place_of(t, o, at);
-    behind(o, a, depth(o, a))
 }
 
 // The station's term at an instant. Whole tens of turns are left out before the factor ten, so that the product fits 64 bits at any instant.
 fn term(at: u64) -> Angle
     ensures { result.units ≡ term_at at }
 {
-    let rest = at % TEN_TURNS as u64;
+    let rest = at % u64::from(TEN_TURNS);
     kepler::phase(TEN_TURNS, 10 * rest)
 }
 
-// u, the station's zenith at an instant.
-fn zenith(t: &[u32], o: Orbit, at: u64) -> [i64; 3]
-    requires { Ready t.now o }
-    ensures { result ≡ zenith_of o at }
-{
-    let s = o.station;
-    let tau = s.meridian.add(term(at));
-    rotation::direction(rotation::turn_of(t, tau), s.latitude)
-}
-
-// Whether the planet is up at the station at an instant. It is seen along −E.
-pub fn up(t: &[u32], o: Orbit, at: u64) -> bool
-    requires { Ready t.now o }
-    ensures { result ≡ up_at o at }
-{
-    let b = o.body;
-    let toward = b.toward;
-    let rise = -fixed::dot(zenith(t, o, at), toward);
-    rise >= o.station.least
-}
-
-// Up and not hidden. The cheaper of the two is asked first.
-fn visible(t: &[u32], o: Orbit, at: u64) -> bool
-    requires { Ready t.now o }
-    ensures { result ≡ visible_at o at }
-{
-    up(t, o, at) && !hidden(t, o, at)
-}
-
-// The answer at an instant: to question 1 hidden, to the other visible.
-pub fn answer(t: &[u32], o: Orbit, question: u32, at: u64) -> bool
-    requires { Ready t.now o }
-    ensures { result ≡ answer_at o question at }
-{
-    if question == 1 {
-        hidden(t, o, at)
-    } else {
-        visible(t, o, at)
-    }
-}
-
-// What tells why at an instant that answered `told`. Most of it is known from that answer: of a no to question 2 up is worked out again, and hidden
-// only where the planet is down, where `answer` did not ask it.
-pub fn sight_of(t: &[u32], o: Orbit, question: u32, at: u64, told: bool) -> Sight
-    requires { (Ready t.now o) × (Answered o question at told) }
-    ensures { result ≡ sight_at o question at }
-{
-    if question == 1 {
-        return Sight {
-            hidden: told,
-            up: false,
+impl<'a> Sky<'a> {
+    // What is fixed for a job, made once.
+    pub fn new(sines: &'a Sines, w: Wholes) -> Sky<'a>
+        requires { Bounded w }
+        ensures { result ≡ orbit_of w }
+    {
+        let orbit = Orbit {
+            ellipse: ellipse_of(w),
+            body: body_of(sines, w),
+            station: station_of(sines, w),
         };
+        Sky { sines, orbit }
     }
-    if told {
-        return Sight {
-            hidden: false,
-            up: true,
-        };
+
+    // E of Kepler's equation, the eccentric anomaly at an instant, from M.
+    fn anomaly(&self, at: u64) -> Angle
+        ensures { result.units ≡ anomaly_of self.now at }
+    {
+        let m = kepler::phase(self.orbit.ellipse.period, at);
+        kepler::eccentric(self.sines, self.orbit.ellipse.eccentricity, m)
     }
-    let risen = up(t, o, at);
-    Sight {
-        hidden: risen || hidden(t, o, at),
-        up: risen,
+
+    // The place at an instant.
+    pub fn place(&self, at: u64) -> Place
+        ensures { result ≡ place_of self.now at }
+    {
+        let l = self.orbit.ellipse;
+        let e = self.anomaly(at);
+        let cos = self.sines.cosine(e);
+        let sin = self.sines.sine(e);
+        let x = fixed::scaled(l.axis, cos - i64::from(l.eccentricity));
+        let y = fixed::scaled(l.minor, sin);
+        Place { x, y }
+    }
+
+    // d: how far a place lies toward the far body.
+    pub fn depth(&self, a: Place) -> i64
+        requires { InOrbit self.now a }
+        ensures { result ≡ depth_of self.now a }
+    {
+        let b = self.orbit.body;
+        fixed::scaled(a.x, b.p) + fixed::scaled(a.y, b.q)
+    }
+
+    // Whether a place at depth d is hidden: d² goes to the other side, where it fits 64 bits.
+    fn behind(&self, a: Place, d: i64) -> bool
+        requires { (InOrbit self.now a) × (Within d deepest) }
+        ensures { result ≡ behind_of self.now a d }
+    {
+        if d < 0 {
+            let deep = (-d) as u64;
+            let square = (a.x * a.x + a.y * a.y) as u64;
+            square < self.orbit.ellipse.radius2 + deep * deep
+        } else {
+            false
+        }
+    }
+
+    // Whether the planet hides the far body at an instant.
+    pub fn hidden(&self, at: u64) -> bool
+        ensures { result ≡ hidden_at self.now at }
+    {
+        let a = self.place(at);
+        self.behind(a, self.depth(a))
+    }
+
+    // u, the station's zenith at an instant.
+    fn zenith(&self, at: u64) -> [i64; 3]
+        ensures { result ≡ zenith_of self.now at }
+    {
+        let s = &self.orbit.station;
+        let tau = s.meridian.add(term(at));
+        rotation::direction(rotation::turn_of(self.sines, tau), s.latitude)
+    }
+
+    // Whether the planet is up at the station at an instant. It is seen along −E.
+    pub fn up(&self, at: u64) -> bool
+        ensures { result ≡ up_at self.now at }
+    {
+        let rise = -fixed::dot(self.zenith(at), self.orbit.body.toward);
+        rise >= self.orbit.station.least
+    }
+
+    // Up and not hidden. The cheaper of the two is asked first.
+    fn visible(&self, at: u64) -> bool
+        ensures { result ≡ visible_at self.now at }
+    {
+        self.up(at) && !self.hidden(at)
+    }
+
+    // The answer at an instant: to question 1 hidden, to the other visible. A number and no enum, since `answer_at` answers any.
+    pub fn answer(&self, question: u32, at: u64) -> bool
+        ensures { result ≡ answer_at self.now question at }
+    {
+        if question == 1 {
+            self.hidden(at)
+        } else {
+            self.visible(at)
+        }
+    }
+
+    // What tells why at an instant that answered `told`. Most of it is known from that answer: of a no to question 2 up is worked out again, and hidden
+    // only where the planet is down, where `answer` did not ask it.
+    pub fn sight(&self, question: u32, at: u64, told: bool) -> Sight
+        requires { Answered self.now question at told }
+        ensures { result ≡ sight_at self.now question at }
+    {
+        if question == 1 {
+            return Sight {
+                hidden: told,
+                up: false,
+            };
+        }
+        if told {
+            return Sight {
+                hidden: false,
+                up: true,
+            };
+        }
+        let risen = self.up(at);
+        Sight {
+            hidden: risen || self.hidden(at),
+            up: risen,
+        }
     }
 }

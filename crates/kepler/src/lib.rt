@@ -1,16 +1,17 @@
 // Place in the orbit: the mean anomaly M of an instant, and the eccentric anomaly E of it by Kepler's equation, searched by
-// halving. Most of the halvings are left out, since a guess foretells them. `t` is the sine table, lent.
+// halving. Most of the halvings are left out, since a guess foretells them.
 #![tactic(auto)]
 
 ghost use Rattle.std.specs.Prelude.{◌≡◌, true};
 ghost use Rattle.halving.specs.Foretold.{YesUpTo, NoFrom};
 ghost use Rattle.fixed.specs.Within.{Is};
 ghost use Rattle.angle.specs.Turn.{turn};
-ghost use Rattle.sine.specs.Sine.{sines};
 ghost use Rattle.kepler.specs.Kepler.{Period, phase_of, Eccentricity, UpToATurn, K, most_mean, reached, kepler_of};
 ghost use Rattle.kepler.specs.Shortcut.{InTurn, Halvings, cell_at, GoesOnIn};
 
 use angle::Angle;
+use halving::Search;
+use sine::Sines;
 
 const TURN: u64 = 4_294_967_296;
 
@@ -29,11 +30,8 @@ const TRIALS: u32 = 8;
 // What K falls by at most from any point on (`keeps` in proofs/Keeps.antt).
 const FALL: i64 = 2;
 
-// The halvings of a whole search.
-const ALL: u32 = 32;
-
-// Those in the smallest cell that is tried.
-const FEWEST: u32 = 4;
+// The halvings in the cells that are tried, the smallest first; a whole search has 32.
+const TRIED: [u32; 3] = [4, 8, 16];
 
 // The two ends of a search.
 #[derive(Clone, Copy)]
@@ -52,39 +50,116 @@ pub fn phase(period: u32, at: u64) -> Angle
     Angle { units }
 }
 
-// The mean anomaly of an eccentric one: K(E).
-fn mean(t: &[u32], e: u32, anomaly: u64) -> i64
-    requires { (t.now ≡ sines) × (Eccentricity e) × (UpToATurn anomaly) }
-    ensures { Is result (K e anomaly) most_mean }
-{
-    let units = (anomaly % TURN) as u32;
-    let es = fixed::unit(e as i64, sine::sine(t, Angle { units }));
-    (anomaly as i64) - fixed::unit(es, RADIAN)
+// Kepler's equation for one instant: e and M, with the sine table by which K is read.
+struct Equation<'a> {
+    sines: &'a Sines,
+    eccentricity: u32,
+    mean: Angle,
+    ghost bounded: { Eccentricity eccentricity },
 }
 
 // Whether the low end moves to E: K(E) ≤ M.
-fn reaches(t: &[u32], e: u32, m: Angle, anomaly: u64) -> bool
-    requires { (t.now ≡ sines) × (Eccentricity e) × (UpToATurn anomaly) }
-    ensures { result ≡ reached e m.units anomaly }
-{
-    mean(t, e, anomaly) <= m.units as i64
+impl Search for Equation<'_> {
+    ghost can_ask = { λ q anomaly. UpToATurn anomaly };
+
+    ghost moves = { λ q anomaly. reached q.eccentricity q.mean.units anomaly };
+
+    fn moves(&self, middle: u64) -> bool {
+        self.k(middle) <= i64::from(self.mean.units)
+    }
 }
 
-// ---- a guess at E
+impl Equation<'_> {
+    // The mean anomaly of an eccentric one: K(E).
+    fn k(&self, anomaly: u64) -> i64
+        requires { UpToATurn anomaly }
+        ensures { Is result (K self.now.eccentricity anomaly) most_mean }
+    {
+        let units = (anomaly % TURN) as u32;
+        let es = fixed::unit(i64::from(self.eccentricity), self.sines.sine(Angle { units }));
+        (anomaly as i64) - fixed::unit(es, RADIAN)
+    }
 
-// It is not trusted: whatever it is, the search finds the same E, but a good one leaves little of it to be made.
+    // ---- a guess at E
 
-// An eighth of a turn times e from M, on the side where E is: E is e·sin E radians from M, and this takes one shift.
-fn start(e: u32, m: Angle) -> u64
-    requires { Eccentricity e }
-    ensures { InTurn result }
-{
-    let away = (e / 2) as u64;
-    let units = m.units as u64;
-    if m.units < Angle::HALF.units {
-        units + away
-    } else {
-        units - away
+    // It is not trusted: whatever it is, the search finds the same E, but a good one leaves little of it to be made.
+
+    // An eighth of a turn times e from M, on the side where E is: E is e·sin E radians from M, and this takes one shift.
+    fn start(&self) -> u64
+        ensures { InTurn result }
+    {
+        let away = u64::from(self.eccentricity / 2);
+        let units = u64::from(self.mean.units);
+        if self.mean.units < Angle::HALF.units {
+            units + away
+        } else {
+            units - away
+        }
+    }
+
+    // Where K would be M, if it went on as in the segment that holds `at`; `at` itself if it does not rise there.
+    fn nearer(&self, at: u64) -> u64
+        requires { InTurn at }
+        ensures { InTurn result }
+    {
+        let low = at - at % SEGMENT;
+        let here = self.k(low);
+        let rise = self.k(low + SEGMENT) - here;
+        if rise <= 0 {
+            return at;
+        }
+        let missing = i64::from(self.mean.units) - here;
+        in_turn(low as i64 + fixed::floor_div(missing * (SEGMENT as i64), rise as u64))
+    }
+
+    // Nearer and nearer, until it stays in its segment or the trials are over.
+    fn guess(&self) -> u64
+        ensures { InTurn result }
+    {
+        let mut at = self.start();
+        for _ in 0..TRIALS {
+            let next = self.nearer(at);
+            if next / SEGMENT == at / SEGMENT {
+                return next;
+            }
+            at = next;
+        }
+        at
+    }
+
+    // ---- the cell in which the search goes on
+
+    // K at its ends settles all answers outside, so halvings lead there. A cell that is sure may be told to be not: only speed hangs on that.
+
+    // Whether all that the search may ask up to `low` is surely reached. Up to 0 it asks nothing.
+    fn yes_up_to(&self, low: u64) -> bool
+        requires { UpToATurn low }
+        ensures { result ≡ true → YesUpTo (reached self.now.eccentricity self.now.mean.units) low }
+    {
+        low == 0 || self.k(low) + FALL <= i64::from(self.mean.units)
+    }
+
+    // Whether surely nothing that the search may ask from `high` on is reached. From a turn on it asks nothing.
+    fn no_from(&self, high: u64) -> bool
+        requires { UpToATurn high }
+        ensures { result ≡ true → NoFrom (reached self.now.eccentricity self.now.mean.units) high turn }
+    {
+        high == TURN || i64::from(self.mean.units) + FALL < self.k(high)
+    }
+
+    // The first cell around the guess g that is sure, or the turn. One that is not has an end too close to E, or does not hold it. A round number ends
+    // cells of every length but the turn's, so few are tried.
+    fn sure_cell(&self, g: u64) -> Bracket
+        requires { InTurn g }
+        ensures { GoesOnIn self.now.eccentricity self.now.mean.units result }
+    {
+        for s in TRIED {
+            let c = cell(g, s);
+            if self.yes_up_to(c.low) && self.no_from(c.high) {
+                return c;
+            }
+        }
+        Bracket { low: 0, high: TURN }
     }
 }
 
@@ -92,66 +167,7 @@ fn start(e: u32, m: Angle) -> u64
 fn in_turn(anomaly: i64) -> u64
     ensures { InTurn result }
 {
-    if anomaly < 0 {
-        return 0;
-    }
-    if LAST < anomaly {
-        return LAST as u64;
-    }
-    anomaly as u64
-}
-
-// Where K would be M, if it went on as in the segment that holds `at`; `at` itself if it does not rise there.
-fn nearer(t: &[u32], e: u32, m: Angle, at: u64) -> u64
-    requires { (t.now ≡ sines) × (Eccentricity e) × (InTurn at) }
-    ensures { InTurn result }
-{
-    let low = at - at % SEGMENT;
-    let here = mean(t, e, low);
-    let rise = mean(t, e, low + SEGMENT) - here;
-    if rise <= 0 {
-        return at;
-    }
-    let missing = m.units as i64 - here;
-    in_turn(low as i64 + fixed::floor_div(missing * (SEGMENT as i64), rise as u64))
-}
-
-// Nearer and nearer, until it stays in its segment or the trials are over.
-fn guess(t: &[u32], e: u32, m: Angle) -> u64
-    requires { (t.now ≡ sines) × (Eccentricity e) }
-    ensures { InTurn result }
-{
-    let mut at = start(e, m);
-    let mut trials = TRIALS;
-    while 0 < trials {
-        let next = nearer(t, e, m, at);
-        if next / SEGMENT == at / SEGMENT {
-            return next;
-        }
-        at = next;
-        trials -= 1;
-    }
-    at
-}
-
-// ---- the cell in which the search goes on
-
-// K at its ends settles all answers outside, so halvings lead there. A cell that is sure may be told to be not: only speed hangs on that.
-
-// Whether all that the search may ask up to `low` is surely reached. Up to 0 it asks nothing.
-fn yes_up_to(t: &[u32], e: u32, m: Angle, low: u64) -> bool
-    requires { (t.now ≡ sines) × (Eccentricity e) × (UpToATurn low) }
-    ensures { result ≡ true → YesUpTo (reached e m.units) low }
-{
-    low == 0 || mean(t, e, low) + FALL <= m.units as i64
-}
-
-// Whether surely nothing that the search may ask from `high` on is reached. From a turn on it asks nothing.
-fn no_from(t: &[u32], e: u32, m: Angle, high: u64) -> bool
-    requires { (t.now ≡ sines) × (Eccentricity e) × (UpToATurn high) }
-    ensures { result ≡ true → NoFrom (reached e m.units) high turn }
-{
-    high == TURN || m.units as i64 + FALL < mean(t, e, high)
+    anomaly.clamp(0, LAST) as u64
 }
 
 // The cell of 2^s units that holds g.
@@ -161,44 +177,23 @@ fn cell(g: u64, s: u32) -> Bracket
 {
     let low = (g >> s) << s;
     Bracket {
-        low: low,
+        low,
         high: low + (1 << s),
     }
 }
 
-// The first cell around the guess g that is sure, or the turn. One that is not has an end too close to E, or does not hold it. A round number ends
-// cells of every length but the turn's, so few are tried.
-fn sure_cell(t: &[u32], e: u32, m: Angle, g: u64) -> Bracket
-    requires { (t.now ≡ sines) × (Eccentricity e) × (InTurn g) }
-    ensures { GoesOnIn e m.units result }
-{
-    let mut s = FEWEST;
-    while s < ALL {
-        let c = cell(g, s);
-        if yes_up_to(t, e, m, c.low) && no_from(t, e, m, c.high) {
-            return c;
-        }
-        s = 2 * s;
-    }
-    Bracket { low: 0, high: TURN }
-}
-
 // The eccentric anomaly E: the low end of the search from 0 and a turn, once its ends are neighbours. Of its 32 halvings those are made that are left in the cell.
-pub fn eccentric(t: &[u32], e: u32, m: Angle) -> Angle
-    requires { (t.now ≡ sines) × (Eccentricity e) }
+pub fn eccentric(sines: &Sines, e: u32, m: Angle) -> Angle
+    requires { Eccentricity e }
     ensures { result.units ≡ kepler_of e m.units }
 {
-    let c = sure_cell(t, e, m, guess(t, e, m));
-    let mut low = c.low;
-    let mut high = c.high;
-    while low + 1 < high {
-        let middle = (low + high) / 2;
-        if reaches(t, e, m, middle) {
-            low = middle;
-        } else {
-            high = middle;
-        }
-    }
-    let units = low as u32;
+    let equation = Equation {
+        sines,
+        eccentricity: e,
+        mean: m,
+    };
+    let c = equation.sure_cell(equation.guess());
+    let edge = halving::halve(&equation, c.low, c.high);
+    let units = edge.low as u32;
     Angle { units }
 }

@@ -1,29 +1,42 @@
-// Turns, directions, and the rotation to the orbit's own axes. `t` is the sine table, lent.
+// Turns, directions, and the rotation to the orbit's own axes.
 #![tactic(auto)]
 
 ghost use Rattle.std.specs.Prelude.{◌≡◌};
 ghost use Rattle.fixed.specs.Scaled.{one, ◌∘◌};
 ghost use Rattle.fixed.specs.Within.{Small, Is};
-ghost use Rattle.sine.specs.Sine.{sines};
-ghost use Rattle.rotation.specs.Rotation.{turn_of, UnitTurn, direction_of, row_p, row_q, row_w, rotation_of_of};
+ghost use Rattle.rotation.specs.Rotation.{turn_of, direction_of, row_p, row_q, row_w, rotation_of_of};
 
 use angle::Angle;
 use fixed::unit;
+use sine::Sines;
+use std::marker::Model;
 
-// The cosine and the sine of one angle, in units of 2^-30.
+// The cosine and the sine of one angle, in units of 2^-30, each at most one away from 0.
 #[derive(Clone, Copy)]
 pub struct Turn {
-    pub cos: i64,
-    pub sin: i64,
+    cos: i64,
+    sin: i64,
+}
+
+impl Model for Turn {
+    ghost use Rattle.fixed.specs.Within.{Small};
+    ghost use Rattle.rotation.specs.CosSin.{CosSin};
+
+    ghost Value = { CosSin };
+
+    ghost view = { λ θ. record { cos = θ.cos; sin = θ.sin } };
+
+    ghost invariant = { λ θ. (Small θ.cos) × (Small θ.sin) };
+
+    ghost inverse = { λ θ. record { cos = θ.cos; sin = θ.sin } };
 }
 
 // The turn of an angle: each is read off the table once and used in several products.
-pub fn turn_of(t: &[u32], theta: Angle) -> Turn
-    requires { t.now ≡ sines }
+pub fn turn_of(sines: &Sines, theta: Angle) -> Turn
     ensures { result ≡ turn_of theta.units }
 {
-    let cos = sine::cosine(t, theta);
-    let sin = sine::sine(t, theta);
+    let cos = sines.cosine(theta);
+    let sin = sines.sine(theta);
     Turn { cos, sin }
 }
 
@@ -37,7 +50,6 @@ fn triple(c: i64, d: i64, e: i64) -> i64
 
 // Row P, toward the periapsis.
 fn row_p(peri: Turn, node: Turn, incl: Turn) -> [i64; 3]
-    requires { (UnitTurn peri) × (UnitTurn node) × (UnitTurn incl) }
     ensures { result ≡ row_p peri node incl }
 {
     [
@@ -49,7 +61,6 @@ fn row_p(peri: Turn, node: Turn, incl: Turn) -> [i64; 3]
 
 // Row Q, a quarter turn on in the orbit.
 fn row_q(peri: Turn, node: Turn, incl: Turn) -> [i64; 3]
-    requires { (UnitTurn peri) × (UnitTurn node) × (UnitTurn incl) }
     ensures { result ≡ row_q peri node incl }
 {
     [
@@ -61,7 +72,6 @@ fn row_q(peri: Turn, node: Turn, incl: Turn) -> [i64; 3]
 
 // Row W, up from the orbit. The hidden answer does not use it.
 fn row_w(node: Turn, incl: Turn) -> [i64; 3]
-    requires { (UnitTurn node) × (UnitTurn incl) }
     ensures { result ≡ row_w node incl }
 {
     [
@@ -73,7 +83,6 @@ fn row_w(node: Turn, incl: Turn) -> [i64; 3]
 
 // The rotation of the periapsis argument, the node and the inclination, as three rows of three.
 pub fn rotation(peri: Turn, node: Turn, incl: Turn) -> [[i64; 3]; 3]
-    requires { (UnitTurn peri) × (UnitTurn node) × (UnitTurn incl) }
     ensures { result ≡ rotation_of_of peri node incl }
 {
     [
@@ -85,7 +94,6 @@ pub fn rotation(peri: Turn, node: Turn, incl: Turn) -> [[i64; 3]; 3]
 
 // The direction at a right ascension and a declination.
 pub fn direction(ascension: Turn, declination: Turn) -> [i64; 3]
-    requires { (UnitTurn ascension) × (UnitTurn declination) }
     ensures { result ≡ direction_of ascension declination }
 {
     [

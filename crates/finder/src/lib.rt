@@ -1,8 +1,8 @@
-// The list of a window's intervals: samples, and in each step whose ends differ a search by halving. `t` is the sine table, lent.
+// The list of a window's intervals: samples, and in each step whose ends differ a search by halving.
 #![tactic(auto)]
 
-ghost use Rattle.std.specs.Prelude.{◌≡◌, cond, length};
-ghost use Rattle.geometry.specs.Ready.{Ready};
+ghost use Rattle.std.specs.Prelude.{◌≡◌, cond, length, ⊤};
+ghost use Rattle.std.specs.Bool.{beq};
 ghost use Rattle.geometry.specs.Visible.{answer_at};
 ghost use Rattle.geometry.specs.Sight.{sight_at};
 ghost use Rattle.finder.specs.Samples.{Good, steps_of};
@@ -11,12 +11,12 @@ ghost use Rattle.finder.specs.Flags.{differing};
 ghost use Rattle.finder.specs.Records.{written, found_of, HasRoom};
 ghost use Rattle.finder.specs.State.{Sampled, next, Stretch, Along, Turned, RoomFor, Flagged, closed_out, advanced, finished, finished_out};
 
-use geometry::Orbit;
-use halving::Edge;
+use geometry::Sky;
+use halving::{Edge, Search};
 use interval::Interval;
 
 // A job's number, and its window and step in ms.
-#[derive(Clone, Copy)]
+#[derive(Clone, Copy, Debug, PartialEq, Eq)]
 pub struct Window {
     pub job: u32,
     pub t0: u64,
@@ -25,20 +25,24 @@ pub struct Window {
 }
 
 // How many intervals the list has, and how many instants were asked.
-#[derive(Clone, Copy)]
+#[derive(Clone, Copy, Debug, PartialEq, Eq)]
 pub struct Found {
     pub intervals: usize,
     pub asked: u64,
 }
 
-// The finder has come to the sample `at`, which answered `was`; where that is yes, the open interval began at `first`, with the flags `begun`.
-// So far it wrote `count` intervals and asked `asked` instants.
+// The interval that is open: where it began, and its flags for that.
+#[derive(Clone, Copy)]
+struct Open {
+    pub first: u64,
+    pub begun: u32,
+}
+
+// The finder has come to the sample `at`. Where that answered yes, an interval is open there. So far it wrote `count` intervals and asked `asked` instants.
 #[derive(Clone, Copy)]
 struct State {
     pub at: u64,
-    pub was: bool,
-    pub first: u64,
-    pub begun: u32,
+    pub open: Option<Open>,
     pub count: usize,
     pub asked: u64,
 }
@@ -51,42 +55,6 @@ pub fn steps(w: Window) -> u64
     (w.t1 - w.t0 + (w.step - 1)) / w.step
 }
 
-// The sample after the sample `at`.
-fn sample(w: Window, at: u64) -> u64
-    requires { Sampled w at }
-    ensures { result ≡ next w at }
-{
-    if at + w.step < w.t1 {
-        at + w.step
-    } else {
-        w.t1
-    }
-}
-
-// The neighbours at which a step changes: low moves where the middle answers as the low end, which answered `was`.
-fn halve(t: &[u32], o: Orbit, question: u32, low: u64, high: u64, was: bool) -> Edge
-    requires { (Ready t.now o) × (Stretch (answer_at o question) low high was) }
-    ensures { result ≡ edge (answer_at o question) low high }
-{
-    let mut l = low;
-    let mut h = high;
-    let mut asked = 0;
-    while l + 1 < h {
-        let middle = (l + h) / 2;
-        asked += 1;
-        if geometry::answer(t, o, question, middle) == was {
-            l = middle;
-        } else {
-            h = middle;
-        }
-    }
-    Edge {
-        low: l,
-        high: h,
-        asked,
-    }
-}
-
 // A bit, where an answer differs.
 fn bit(value: u32, differs: bool) -> u32
     ensures { result ≡ cond differs value 0 }
@@ -94,111 +62,173 @@ fn bit(value: u32, differs: bool) -> u32
     if differs { value } else { 0 }
 }
 
-// Why the answer changes between neighbours, of which the low one answered `was`: 4 where hidden differs, 8 where up does.
-fn why(t: &[u32], o: Orbit, question: u32, e: Edge, was: bool) -> u32
-    requires { (Ready t.now o) × (Turned (answer_at o question) e was) }
-    ensures { result ≡ differing 4 8 (sight_at o question e.low) (sight_at o question e.high) }
-{
-    let low = geometry::sight_of(t, o, question, e.low, was);
-    let high = geometry::sight_of(t, o, question, e.high, !was);
-    bit(4, low.hidden != high.hidden) + bit(8, low.up != high.up)
+// What is asked of which window.
+struct Finder<'a> {
+    sky: &'a Sky<'a>,
+    question: u32,
+    window: Window,
+    ghost good: { Good window },
 }
 
-// Closes the open interval at `last`, with these flags for it: the record after the `count` that are there.
-fn put(w: Window, out: &mut [u8], s: State, last: u64, flags: u32)
-    requires { (RoomFor s.count 1 out.old) × (Flagged s flags) }
-    ensures { out.new ≡ closed_out w s last flags out.old }
-{
-    let r = Interval {
-        job: w.job,
-        flags: s.begun + flags,
-        first: s.first,
-        last,
-    };
-    interval::write(out, 24 * s.count, r);
+// The search in a step whose low end answered `was`: it moves where the middle answers so too.
+struct Steady<'a> {
+    finder: &'a Finder<'a>,
+    was: bool,
 }
 
-// One step, to the sample b. From no to yes: the high neighbour is a first. From yes to no: the low one is a last. The flags of a last are
-// four times those of a first.
-fn advance(t: &[u32], o: Orbit, question: u32, w: Window, out: &mut [u8], s: State, b: u64) -> State
-    requires { (Ready t.now o) × (Along (answer_at o question) (sight_at o question) w s b out.old) }
-    ensures value { result ≡ advanced (answer_at o question) (sight_at o question) w s b }
-    ensures out_after { out.new ≡ written (sight_at o question) w out.old s.count (closed_in (answer_at o question) s.first s.at b) }
-{
-    let yes = geometry::answer(t, o, question, b);
-    if yes == s.was {
-        return State {
-            at: b,
-            was: yes,
-            first: s.first,
-            begun: s.begun,
-            count: s.count,
-            asked: s.asked + 1,
+impl Search for Steady<'_> {
+    ghost can_ask = { λ s middle. ⊤ };
+
+    ghost moves = { λ s middle. beq (answer_at s.finder.now.sky.now s.finder.now.question middle) s.was };
+
+    fn moves(&self, middle: u64) -> bool {
+        self.finder.answer(middle) == self.was
+    }
+}
+
+impl Finder<'_> {
+    // The answer at an instant.
+    fn answer(&self, at: u64) -> bool
+        ensures { result ≡ answer_at self.now.sky.now self.now.question at }
+    {
+        self.sky.answer(self.question, at)
+    }
+
+    // The sample after the sample `at`.
+    fn sample(&self, at: u64) -> u64
+        requires { Sampled self.now.window at }
+        ensures { result ≡ next self.now.window at }
+    {
+        self.window.t1.min(at + self.window.step)
+    }
+
+    // The neighbours at which a step changes whose low end answered `was`.
+    fn halve(&self, low: u64, high: u64, was: bool) -> Edge
+        requires { Stretch (answer_at self.now.sky.now self.now.question) low high was }
+        ensures { result ≡ edge (answer_at self.now.sky.now self.now.question) low high }
+    {
+        halving::halve(&Steady { finder: self, was }, low, high)
+    }
+
+    // Why the answer changes between neighbours, of which the low one answered `was`: 4 where hidden differs, 8 where up does.
+    fn why(&self, e: Edge, was: bool) -> u32
+        requires { Turned (answer_at self.now.sky.now self.now.question) e was }
+        ensures { result ≡ differing 4 8 (sight_at self.now.sky.now self.now.question e.low) (sight_at self.now.sky.now self.now.question e.high) }
+    {
+        let low = self.sky.sight(self.question, e.low, was);
+        let high = self.sky.sight(self.question, e.high, !was);
+        bit(4, low.hidden != high.hidden) + bit(8, low.up != high.up)
+    }
+
+    // Closes the open interval at `last`, with these flags for it: the record after the `count` that are there.
+    fn put(&self, out: &mut [u8], count: usize, open: Open, last: u64, flags: u32)
+        requires { (RoomFor count 1 out.old) × (Flagged open flags) }
+        ensures { out.new ≡ closed_out self.now.window count open last flags out.old }
+    {
+        let r = Interval {
+            job: self.window.job,
+            flags: open.begun + flags,
+            first: open.first,
+            last,
         };
+        interval::write(out, 24 * count, r);
     }
-    let e = halve(t, o, question, s.at, b, s.was);
-    let asked = s.asked + 1 + e.asked;
-    let flags = why(t, o, question, e, s.was);
-    if yes {
-        return State {
-            at: b,
-            was: yes,
-            first: e.high,
-            begun: flags,
-            count: s.count,
-            asked,
-        };
-    }
-    put(w, out, s, e.low, 4 * flags);
-    State {
-        at: b,
-        was: yes,
-        first: s.first,
-        begun: s.begun,
-        count: s.count + 1,
-        asked,
-    }
-}
 
-// The end: a yes at the last sample closes an interval there.
-fn close(w: Window, out: &mut [u8], s: State) -> Found
-    requires { (RoomFor s.count (length (ended s.was s.first s.at)) out.old) × (Flagged s 2) }
-    ensures value { result ≡ finished s }
-    ensures out_after { out.new ≡ finished_out w s out.old }
-{
-    if s.was {
-        put(w, out, s, s.at, 2);
-        return Found {
-            intervals: s.count + 1,
+    // One step, to the sample b. From no to yes: the high neighbour is a first. From yes to no: the low one is a last. The flags of a last are
+    // four times those of a first.
+    fn advance(&self, out: &mut [u8], s: State, b: u64) -> State
+        requires { Along (answer_at self.now.sky.now self.now.question) (sight_at self.now.sky.now self.now.question) self.now.window s b out.old }
+        ensures value { result ≡ advanced (answer_at self.now.sky.now self.now.question) (sight_at self.now.sky.now self.now.question) self.now.window s b }
+        ensures out_after { out.new ≡ written (sight_at self.now.sky.now self.now.question) self.now.window out.old s.count (closed_in (answer_at self.now.sky.now self.now.question) (first_of s) s.at b) }
+    {
+        let was = s.open.is_some();
+        if self.answer(b) == was {
+            return State {
+                at: b,
+                asked: s.asked + 1,
+                ..s
+            };
+        }
+        let e = self.halve(s.at, b, was);
+        let asked = s.asked + 1 + e.asked;
+        let flags = self.why(e, was);
+        match s.open {
+            None => State {
+                at: b,
+                open: Some(Open {
+                    first: e.high,
+                    begun: flags,
+                }),
+                count: s.count,
+                asked,
+            },
+            Some(open) => {
+                self.put(out, s.count, open, e.low, 4 * flags);
+                State {
+                    at: b,
+                    open: None,
+                    count: s.count + 1,
+                    asked,
+                }
+            }
+        }
+    }
+
+    // The end: a yes at the last sample closes an interval there.
+    fn close(&self, out: &mut [u8], s: State) -> Found
+        requires { (RoomFor s.count (length (ended (was_of s) (first_of s) s.at)) out.old) }
+        ensures value { result ≡ finished s }
+        ensures out_after { out.new ≡ finished_out self.now.window s out.old }
+    {
+        let mut intervals = s.count;
+        if let Some(open) = s.open {
+            self.put(out, s.count, open, s.at, 2);
+            intervals += 1;
+        }
+        Found {
+            intervals,
             asked: s.asked,
-        };
+        }
     }
-    Found {
-        intervals: s.count,
-        asked: s.asked,
+
+    // The list, from byte 0 of `out`, and what was counted.
+    fn list(&self, out: &mut [u8]) -> Found
+        requires { HasRoom self.now.window out.old }
+        ensures value { result ≡ found_of (answer_at self.now.sky.now self.now.question) self.now.window }
+        ensures out_after { out.new ≡ written (sight_at self.now.sky.now self.now.question) self.now.window out.old 0 (list_of (answer_at self.now.sky.now self.now.question) self.now.window) }
+    {
+        let start = self.window.t0;
+        let open = if self.answer(start) {
+            Some(Open {
+                first: start,
+                begun: 1,
+            })
+        } else {
+            None
+        };
+        let mut s = State {
+            at: start,
+            open,
+            count: 0,
+            asked: 1,
+        };
+        for _ in 0..steps(self.window) {
+            s = self.advance(out, s, self.sample(s.at));
+        }
+        self.close(out, s)
     }
 }
 
 // The list of the window's intervals, from byte 0 of `out`, and what was counted.
-pub fn list(t: &[u32], o: Orbit, question: u32, w: Window, out: &mut [u8]) -> Found
-    requires { (Ready t.now o) × (Good w) × (HasRoom w out.old) }
-    ensures value { result ≡ found_of (answer_at o question) w }
-    ensures out_after { out.new ≡ written (sight_at o question) w out.old 0 (list_of (answer_at o question) w) }
+pub fn list(sky: &Sky, question: u32, w: Window, out: &mut [u8]) -> Found
+    requires { (Good w) × (HasRoom w out.old) }
+    ensures value { result ≡ found_of (answer_at sky.now question) w }
+    ensures out_after { out.new ≡ written (sight_at sky.now question) w out.old 0 (list_of (answer_at sky.now question) w) }
 {
-    let yes = geometry::answer(t, o, question, w.t0);
-    let mut s = State {
-        at: w.t0,
-        was: yes,
-        first: w.t0,
-        begun: 1,
-        count: 0,
-        asked: 1,
+    let finder = Finder {
+        sky,
+        question,
+        window: w,
     };
-    let mut left = steps(w);
-    while left > 0 {
-        let b = sample(w, s.at);
-        s = advance(t, o, question, w, out, s, b);
-        left -= 1;
-    }
-    close(w, out, s)
+    finder.list(out)
 }

@@ -1,9 +1,8 @@
 -- What a job answers, and what its list holds afterwards (document 01, "Turned away" and "The list"; document 02, wish 1).
-use Rattle.std.specs.Prelude.{ℕ, Bool, List, [], length}
+use Rattle.std.specs.Prelude.{ℕ, Bool, List, [], length, Result, Ok, Err}
 use Rattle.std.proofs.lemmas.List.Edits.{sets}
-use Rattle.refusal.specs.Rows.{first}
-use Rattle.refusal.specs.declared.Verdict.{Verdict}
-use Rattle.refusal.specs.declared.Verdict.TheVariants as verdict
+use Rattle.refusal.specs.Rows.{Verdict, first}
+use Rattle.refusal.specs.declared.Refusal.{Refusal}
 use Rattle.elements.specs.declared.reading.Elements.{Elements}
 use Rattle.elements.specs.Reading.{elements_of}
 use Rattle.elements.specs.Rounding.{wholes_of}
@@ -12,36 +11,39 @@ use Rattle.geometry.specs.declared.Sight.{Sight}
 use Rattle.geometry.specs.Prepared.{orbit_of}
 use Rattle.geometry.specs.Visible.{answer_at}
 use Rattle.geometry.specs.Sight.{sight_at}
+use Rattle.finder.specs.declared.Found.{Found}
 use Rattle.finder.specs.declared.Window.{Window}
 use Rattle.finder.specs.Spans.{list_of}
 use Rattle.finder.specs.Records.{records_of, found_of}
 use Rattle.job.specs.Table.{window_of, question_of, table_of}
-use Rattle.job.specs.declared.Outcome.{Outcome}
-use Rattle.job.specs.declared.Outcome.TheVariants.{Listed, Refused}
+
+-- what the finder counts, or the refusal
+abbrev pub Outcome : Type 0
+Outcome = Result Found Refusal
 
 -- ---- an outcome's numbers
 
 -- every refusal returns 0 intervals
 abbrev pub intervals_of : Outcome → ℕ
-intervals_of (Listed intervals asked) = intervals
-intervals_of (Refused r) = 0
+intervals_of (Ok f) = f.intervals
+intervals_of (Err r) = 0
 
 -- and 0 instants asked
 abbrev pub asked_of : Outcome → ℕ
-asked_of (Listed intervals asked) = asked
-asked_of (Refused r) = 0
+asked_of (Ok f) = f.asked
+asked_of (Err r) = 0
 
 -- ---- by the table's verdict
 
 -- the refusal, or what the finder counts
 unfoldable pub outcome_from : Verdict → (ℕ → Bool) → Window → Outcome
-outcome_from verdict.Passed f w = Listed (found_of f w).intervals (found_of f w).asked
-outcome_from (verdict.Refused r) f w = Refused r
+outcome_from (Ok t) f w = Ok (found_of f w)
+outcome_from (Err r) f w = Err r
 
 -- on success the bytes of the interval records, and none for a refusal
 unfoldable pub records_from : Verdict → (ℕ → Bool) → (ℕ → Sight) → Window → List ℕ
-records_from verdict.Passed f g w = records_of g w (list_of f w)
-records_from (verdict.Refused r) f g w = []
+records_from (Ok t) f g w = records_of g w (list_of f w)
+records_from (Err r) f g w = []
 
 -- ---- by the record
 

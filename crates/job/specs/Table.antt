@@ -1,9 +1,8 @@
 -- The table of refusals, in order (document 01, "Turned away").
 use Rattle.std.specs.Prelude.{ℕ, Bool, not, ◌&&◌, ◌||◌, List, [], ◌∷◌, ◌++◌, eqb, ltb, leb}
 use Rattle.words.specs.Little.{read_of}
-use Rattle.refusal.specs.Rows.{when}
+use Rattle.refusal.specs.Rows.{Verdict, when}
 use Rattle.refusal.specs.declared.Refusal.TheVariants as refusal
-use Rattle.refusal.specs.declared.Verdict.{Verdict}
 use Rattle.elements.specs.Reading.{record_rows}
 use Rattle.finder.specs.declared.Window.{Window}
 use Rattle.finder.specs.Samples.{last_end, longest_step, most_steps, steps_of}

@@ -7,29 +7,18 @@ ghost use Rattle.refusal.specs.Rows.{first};
 ghost use Rattle.elements.specs.Accepted.{Accepted};
 ghost use Rattle.elements.specs.Reading.{WholeRecord};
 ghost use Rattle.finder.specs.Samples.{Good};
-ghost use Rattle.job.specs.Table.{window_of, bad_window, bad_step, bad_question, no_room_of, room_row, rows_to_question, rows_from_window};
-ghost use Rattle.job.specs.Outcome.{intervals_of, outcome_by, records_by, outcome_of, list_after_of};
+ghost use Rattle.job.specs.Table.{window_of, question_of, bad_window, bad_step, bad_question, no_room_of, room_row, rows_to_question, rows_from_window};
+ghost use Rattle.job.specs.Outcome.{outcome_by, records_by, outcome_of, list_after_of};
 ghost use Rattle.job.specs.Reply.{job_of, closing_of, reply_of};
-ghost use Rattle.job.specs.Admission.{admission_from, admission_of};
+ghost use Rattle.job.specs.Admission.{admission_of};
 
-use elements::reading::{Elements, Reading};
-use finder::Window;
+use elements::reading::Elements;
+use finder::{Found, Window};
+use geometry::Sky;
 use interval::Interval;
-use refusal::{Refusal, Verdict, row, then};
-
-// The number of intervals and of instants asked, or why the job is turned away.
-#[derive(Clone, Copy)]
-pub enum Outcome {
-    Listed { intervals: usize, asked: u64 },
-    Refused(Refusal),
-}
-
-// The window of a record that every row but 9 lets through, or why it is turned away.
-#[derive(Clone, Copy)]
-pub enum Admission {
-    Admitted(Window),
-    TurnedAway(Refusal),
-}
+use refusal::{Refusal, row};
+use sine::Sines;
+use words::Word;
 
 // The last end of a window, in ms: 31 days.
 const LAST_END: u64 = 2_678_400_000;
@@ -39,16 +28,24 @@ const LONGEST_STEP: u64 = 1_048_576;
 
 const MOST_STEPS: u64 = 4096;
 
+// A record's question.
+fn question(s: &[u8]) -> u32
+    requires { WholeRecord s.now }
+    ensures { result ≡ question_of s.now }
+{
+    u32::read(s, 132)
+}
+
 // A record's job number, window and step.
 fn window(s: &[u8]) -> Window
     requires { WholeRecord s.now }
     ensures { result ≡ window_of s.now }
 {
     Window {
-        job: words::read4(s, 0),
-        t0: words::read8(s, 112),
-        t1: words::read8(s, 120),
-        step: words::read4(s, 128) as u64,
+        job: u32::read(s, 0),
+        t0: u64::read(s, 112),
+        t1: u64::read(s, 120),
+        step: u64::from(u32::read(s, 128)),
     }
 }
 
@@ -85,12 +82,12 @@ fn bad_question(question: u32) -> bool
 }
 
 // Rows 6 to 8.
-fn window_to_question(w: Window, question: u32) -> Verdict
+fn window_to_question(w: Window, question: u32) -> Result<(), Refusal>
     ensures { result ≡ first (rows_to_question w question) }
 {
-    let v = row(bad_window(w), Refusal::Window);
-    let v = then(v, row(bad_step(w), Refusal::Step));
-    then(v, row(bad_question(question), Refusal::Question))
+    row(bad_window(w), Refusal::Window)?;
+    row(bad_step(w), Refusal::Step)?;
+    row(bad_question(question), Refusal::Question)
 }
 
 // ---- refusal 9, and the list
@@ -104,68 +101,48 @@ fn no_room(w: Window, room: usize) -> bool
 }
 
 // Row 9, and then the list. The sine table is made here, once, and lent to all that reads it; so a refused job makes none.
-fn from_room(e: Elements, question: u32, w: Window, list: &mut [u8]) -> Outcome
+fn from_room(e: Elements, question: u32, w: Window, list: &mut [u8]) -> Result<Found, Refusal>
     requires { (Accepted e) × (Good w) }
     ensures value { result ≡ outcome_by (room_row w (length list.old)) e question w }
     ensures list_after { list.new ≡ sets list.old 0 (records_by (room_row w (length list.old)) e question w) }
 {
-    if no_room(w, list.len()) {
-        return Outcome::Refused(Refusal::Room);
-    }
-    let t = sine::table();
-    let o = geometry::prepare(&t, elements::rounding::rounded(e));
-    let f = finder::list(&t, o, question, w, list);
-    Outcome::Listed {
-        intervals: f.intervals,
-        asked: f.asked,
-    }
+    row(no_room(w, list.len()), Refusal::Room)?;
+    let sines = Sines::new();
+    let sky = Sky::new(&sines, elements::rounding::rounded(e));
+    Ok(finder::list(&sky, question, w, list))
 }
 
 // ---- the job
 
 // Rows 6 to 9, and then the list. Room is asked behind the others, since only of a good window can the steps be counted.
-fn from_window(e: Elements, question: u32, w: Window, list: &mut [u8]) -> Outcome
+fn from_window(e: Elements, question: u32, w: Window, list: &mut [u8]) -> Result<Found, Refusal>
     requires { Accepted e }
     ensures value { result ≡ outcome_by (first (rows_from_window w question (length list.old))) e question w }
     ensures list_after { list.new ≡ sets list.old 0 (records_by (first (rows_from_window w question (length list.old))) e question w) }
 {
-    match window_to_question(w, question) {
-        Verdict::Refused(r) => Outcome::Refused(r),
-        Verdict::Passed => from_room(e, question, w, list),
-    }
+    window_to_question(w, question)?;
+    from_room(e, question, w, list)
 }
 
 // One job: its intervals in `list` from byte 0, or the first refusal that applies and `list` as it was.
-pub fn list(s: &[u8], list: &mut [u8]) -> Outcome
+pub fn list(s: &[u8], list: &mut [u8]) -> Result<Found, Refusal>
     ensures value { result ≡ outcome_of s.now (length list.old) }
     ensures list_after { list.new ≡ list_after_of s.now list.old }
 {
-    match elements::reading::read(s) {
-        Reading::Refused(r) => Outcome::Refused(r),
-        Reading::Read(e) => from_window(e, words::read4(s, 132), window(s), list),
-    }
+    let e = elements::reading::read(s)?;
+    from_window(e, question(s), window(s), list)
 }
 
 // ---- whether a record is accepted
 
-// Rows 6 to 8, and the window.
-fn admit_window(w: Window, question: u32) -> Admission
-    ensures { result ≡ admission_from (first (rows_to_question w question)) w }
-{
-    match window_to_question(w, question) {
-        Verdict::Refused(r) => Admission::TurnedAway(r),
-        Verdict::Passed => Admission::Admitted(w),
-    }
-}
-
 // A record's window, where every row but 9 lets it through.
-pub fn admit(s: &[u8]) -> Admission
+pub fn admit(s: &[u8]) -> Result<Window, Refusal>
     ensures { result ≡ admission_of s.now }
 {
-    match elements::reading::read(s) {
-        Reading::Refused(r) => Admission::TurnedAway(r),
-        Reading::Read(_) => admit_window(window(s), words::read4(s, 132)),
-    }
+    elements::reading::read(s)?;
+    let w = window(s);
+    window_to_question(w, question(s))?;
+    Ok(w)
 }
 
 // ---- what the program writes for a record
@@ -175,40 +152,27 @@ pub fn job_number(s: &[u8]) -> u32
     ensures { result ≡ job_of s.now }
 {
     if s.len() == 136 {
-        words::read4(s, 0)
+        u32::read(s, 0)
     } else {
         0
     }
 }
 
-// How many intervals the list has.
-fn intervals(o: Outcome) -> usize
-    ensures { result ≡ intervals_of o }
-{
-    match o {
-        Outcome::Listed {
-            intervals,
-            asked: _,
-        } => intervals,
-        Outcome::Refused(_) => 0,
-    }
-}
-
 // The record behind a job's intervals.
-pub fn closing(job: u32, o: Outcome) -> Interval
+pub fn closing(job: u32, o: Result<Found, Refusal>) -> Interval
     ensures { result ≡ closing_of job o }
 {
     match o {
-        Outcome::Listed { intervals, asked } => Interval {
+        Ok(f) => Interval {
             job,
             flags: 512,
-            first: intervals as u64,
-            last: asked,
+            first: f.intervals as u64,
+            last: f.asked,
         },
-        Outcome::Refused(r) => Interval {
+        Err(r) => Interval {
             job,
-            flags: 256 + refusal::number(r),
-            first: refusal::field(r) as u64,
+            flags: 256 + r.number(),
+            first: u64::from(r.field()),
             last: 0,
         },
     }
@@ -225,7 +189,7 @@ pub fn reply(s: &[u8], out: &mut [u8]) -> usize
         return 0;
     }
     let o = list(s, &mut out[..room - 24]);
-    let at = 24 * intervals(o);
+    let at = 24 * o.map_or(0, |f| f.intervals);
     interval::write(out, at, closing(job_number(s), o));
     at + 24
 }

@@ -1,5 +1,5 @@
 -- What the private functions suppose and give. No rule of document 02.
-use Rattle.std.specs.Prelude.{ℕ, ◌+◌, ◌*◌, ◌≤◌, ◌≡◌, false, cond, List, [], ◌∷◌, length, take}
+use Rattle.std.specs.Prelude.{ℕ, ◌+◌, ◌*◌, ◌≤◌, ◌≡◌, false, cond, List, [], ◌∷◌, length, take, Option, Some, None}
 use Rattle.std.proofs.lemmas.List.Edits.{sets}
 use Rattle.finder.specs.declared.Window.{Window}
 use Rattle.finder.specs.Samples.{last_end, Good}
@@ -7,8 +7,6 @@ use Rattle.finder.specs.Spans.{Span}
 use Rattle.days.specs.Days.{day_of, days_of}
 use Rattle.days.specs.Summary.{summary_of, updated}
 use Rattle.days.specs.Given.{spans_of, bad_span, bad_spans, bad_list}
-use Rattle.days.specs.declared.Worked.{Worked}
-use Rattle.days.specs.declared.Worked.TheVariants.{Ordered, Bad}
 
 -- a good window, and room for its summary
 pub record HasRoom (w : Window) (lent : List ℕ) : Type 0 where
@@ -43,8 +41,8 @@ abbrev pub Updated : Window → Span → List ℕ → List ℕ → Type 0
 Updated w s lent after = (l : List Span) → Awaits w l s lent → after ≡ updated w l s lent
 
 -- a good list, and where an interval behind it may begin
-unfoldable pub worked_of : Window → List ℕ → Worked
-worked_of w list = cond (bad_list w list) Bad (Ordered (next_from w.t0 (spans_of list)))
+unfoldable pub worked_of : Window → List ℕ → Option ℕ
+worked_of w list = cond (bad_list w list) None (Some (next_from w.t0 (spans_of list)))
 
 -- the summary of a good list stands from byte 0 on
 abbrev pub SummedUp : Window → List ℕ → List ℕ → List ℕ → Type 0

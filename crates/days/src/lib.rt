@@ -1,30 +1,37 @@
 // Totals by day: a summary of a list, with a record for each day that the window touches, and its update by one interval more.
 #![tactic(auto)]
 
-ghost use Rattle.std.specs.Prelude.{◌*◌, min, ◌≡◌, not, [], length, take};
+ghost use Rattle.std.specs.Prelude.{◌*◌, ◌≡◌, not, [], length, take, Ok};
 ghost use Rattle.std.proofs.lemmas.List.Edits.{sets};
 ghost use Rattle.words.specs.Little.{Holds};
 ghost use Rattle.finder.specs.Samples.{Good};
 ghost use Rattle.finder.specs.Spans.{span};
-ghost use Rattle.job.specs.declared.Admission.TheVariants.{Admitted};
 ghost use Rattle.days.specs.Days.{days_of};
+ghost use Rattle.days.specs.declared.Fault.TheVariants.{Job};
 ghost use Rattle.days.specs.Counts.{instants_under};
 ghost use Rattle.days.specs.Summary.{day_bytes, summary_of, updated};
-ghost use Rattle.days.specs.Given.{span_at, spans_of, bad_span, bad_list, bad_append, same};
+ghost use Rattle.days.specs.Given.{span_at, spans_of, bad_span, bad_list, bad_append};
 ghost use Rattle.days.specs.State.{HasRoom, Under, AwaitsSome, Updated, worked_of, SummedUp};
 ghost use Rattle.days.specs.Totals.{numbers_of, totals_by, left_by, totals_of, append_of, summary_after_of, append_after};
 
 use finder::Window;
-use job::Admission;
 use refusal::Refusal;
+use words::Word;
 
-// How many days were written, or why none was: the job's own refusal, 11 or 12.
-#[derive(Clone, Copy)]
-pub enum Totals {
-    Written { days: usize },
+// Why no day was written: the job's own refusal, 11 or 12.
+#[derive(Clone, Copy, Debug, PartialEq)]
+pub enum Fault {
     Job(Refusal),
     SummaryRoom,
     BadList,
+}
+
+impl From<Refusal> for Fault {
+    ghost from_gives = { λ r fault. fault ≡ Job r };
+
+    fn from(r: Refusal) -> Fault {
+        Fault::Job(r)
+    }
 }
 
 // The refusal's number or 0, the field that offends or 0, the bits of the number that is handed back, and how many days were written.
@@ -34,13 +41,6 @@ pub struct Numbers {
     pub field: u32,
     pub bits: u64,
     pub days: usize,
-}
-
-// Where an interval behind a good list may begin, or that the list is bad.
-#[derive(Clone, Copy)]
-enum Worked {
-    Ordered { next: u64 },
-    Bad,
 }
 
 // A day, in ms.
@@ -56,29 +56,29 @@ const DAY_RECORD: usize = 16;
 const ANY_SUMMARY: usize = 512;
 
 // An answer in numbers.
-pub fn told(t: Totals) -> Numbers
+pub fn told(t: Result<usize, Fault>) -> Numbers
     ensures { result ≡ numbers_of t }
 {
     match t {
-        Totals::Written { days } => Numbers {
+        Ok(days) => Numbers {
             refusal: 0,
             field: 0,
             bits: 0,
             days,
         },
-        Totals::Job(r) => Numbers {
-            refusal: refusal::number(r),
-            field: refusal::field(r),
-            bits: refusal::bits(r),
+        Err(Fault::Job(r)) => Numbers {
+            refusal: r.number(),
+            field: r.field(),
+            bits: r.bits(),
             days: 0,
         },
-        Totals::SummaryRoom => Numbers {
+        Err(Fault::SummaryRoom) => Numbers {
             refusal: 11,
             field: 0,
             bits: 0,
             days: 0,
         },
-        Totals::BadList => Numbers {
+        Err(Fault::BadList) => Numbers {
             refusal: 12,
             field: 0,
             bits: 0,
@@ -97,20 +97,13 @@ fn days(w: Window) -> usize
     (w.t1 / DAY - w.t0 / DAY + 1) as usize
 }
 
-// The smaller one.
-fn least(a: u64, b: u64) -> u64
-    ensures { result ≡ min a b }
-{
-    if a < b { a } else { b }
-}
-
 // How many instants of the interval are in day d.
 fn inside(first: u64, last: u64, d: u64) -> u64
     requires { Under (span first last) d }
     ensures { result ≡ instants_under (span first last) d }
 {
     let begins = d * DAY;
-    let end = least(last + 1, begins + DAY);
+    let end = (last + 1).min(begins + DAY);
     if first < begins {
         end - begins
     } else {
@@ -125,9 +118,9 @@ fn put_day(out: &mut [u8], at: usize, day: u32, intervals: u32, instants: u64)
     requires { Holds 16 out.old at }
     ensures { out.new ≡ sets out.old at (day_bytes day intervals instants) }
 {
-    words::put4(out, at, day);
-    words::put4(out, at + 4, intervals);
-    words::put8(out, at + 8, instants);
+    day.put(out, at);
+    intervals.put(out, at + 4);
+    instants.put(out, at + 8);
 }
 
 // The summary of no interval.
@@ -136,11 +129,8 @@ fn blank(w: Window, out: &mut [u8])
     ensures { out.new ≡ sets out.old 0 (summary_of w []) }
 {
     let start = w.t0 / DAY;
-    let n = days(w);
-    let mut i = 0;
-    while i < n {
+    for i in 0..days(w) {
         put_day(out, DAY_RECORD * i, (start + (i as u64)) as u32, 0, 0);
-        i += 1;
     }
 }
 
@@ -150,14 +140,11 @@ fn add(w: Window, out: &mut [u8], first: u64, last: u64)
     ensures { Updated w (span first last) out.old out.new }
 {
     let start = w.t0 / DAY;
-    let end = last / DAY;
-    let mut d = first / DAY;
-    while d <= end {
+    for d in first / DAY..last / DAY + 1 {
         let at = DAY_RECORD * ((d - start) as usize);
-        let intervals = words::read4(out, at + 4) + 1;
-        let instants = words::read8(out, at + 8) + inside(first, last, d);
+        let intervals = u32::read(out, at + 4) + 1;
+        let instants = u64::read(out, at + 8) + inside(first, last, d);
         put_day(out, at, d as u32, intervals, instants);
-        d += 1;
     }
 }
 
@@ -173,47 +160,27 @@ fn bad_span(low: u64, high: u64, first: u64, last: u64) -> bool
     first < low || high < last
 }
 
-// The list is gone through once: each interval is looked at, and added to the summary in `own`.
-fn work_out(w: Window, list: &[u8], own: &mut [u8]) -> Worked
+// The list is gone through once: each interval is looked at, and added to the summary in `own`. Of a good list it tells where an interval behind it may begin.
+fn work_out(w: Window, list: &[u8], own: &mut [u8]) -> Option<u64>
     requires { HasRoom w own.old }
     ensures value { result ≡ worked_of w list.now }
     ensures summed_up { SummedUp w list.now own.old own.new }
 {
     if list.len() % INTERVAL != 0 {
-        return Worked::Bad;
+        return None;
     }
     blank(w, own);
-    let n = list.len() / INTERVAL;
     let mut next = w.t0;
-    let mut k = 0;
-    while k < n {
-        let first = words::read8(list, INTERVAL * k + 8);
-        let last = words::read8(list, INTERVAL * k + 16);
+    for span in list.chunks_exact(INTERVAL) {
+        let first = u64::read(span, 8);
+        let last = u64::read(span, 16);
         if bad_span(next, w.t1, first, last) {
-            return Worked::Bad;
+            return None;
         }
         add(w, own, first, last);
         next = last + 2;
-        k += 1;
     }
-    Worked::Ordered { next }
-}
-
-// Whether two slices have the same bytes.
-fn same_bytes(a: &[u8], b: &[u8]) -> bool
-    ensures { result ≡ same a.now b.now }
-{
-    if a.len() != b.len() {
-        return false;
-    }
-    let mut i = 0;
-    while i < a.len() {
-        if a[i] != b[i] {
-            return false;
-        }
-        i += 1;
-    }
-    true
+    Some(next)
 }
 
 // Whether the piece may be appended: the list is good, the summary its own, and the piece one interval behind it.
@@ -223,80 +190,70 @@ fn follows(w: Window, list: &[u8], piece: &[u8], summary: &[u8]) -> bool
 {
     let used = DAY_RECORD * days(w);
     let mut own = [0u8; ANY_SUMMARY];
-    match work_out(w, list, &mut own) {
-        Worked::Bad => false,
-        Worked::Ordered { next } => {
-            if piece.len() != INTERVAL {
-                return false;
-            }
-            if bad_span(next, w.t1, words::read8(piece, 8), words::read8(piece, 16)) {
-                return false;
-            }
-            same_bytes(summary, &own[..used])
-        }
+    let Some(next) = work_out(w, list, &mut own) else {
+        return false;
+    };
+    if piece.len() != INTERVAL {
+        return false;
     }
+    if bad_span(next, w.t1, u64::read(piece, 8), u64::read(piece, 16)) {
+        return false;
+    }
+    summary == &own[..used]
 }
 
 // ---- the summary
 
 // 11 and 12, and then the summary, worked out beside the lent bytes so that a refusal leaves them.
-fn summary_in(w: Window, list: &[u8], out: &mut [u8]) -> Totals
+fn summary_in(w: Window, list: &[u8], out: &mut [u8]) -> Result<usize, Fault>
     requires { Good w }
-    ensures value { result ≡ totals_by (Admitted w) (length out.old) (λ v. bad_list v list.now) }
+    ensures value { result ≡ totals_by (Ok w) (length out.old) (λ v. bad_list v list.now) }
     ensures out_after { out.new ≡ left_by result (sets out.old 0 (summary_of w (spans_of list.now))) out.old }
 {
     let n = days(w);
     let used = DAY_RECORD * n;
     if out.len() < used {
-        return Totals::SummaryRoom;
+        return Err(Fault::SummaryRoom);
     }
     let mut own = [0u8; ANY_SUMMARY];
-    match work_out(w, list, &mut own) {
-        Worked::Bad => Totals::BadList,
-        Worked::Ordered { next: _ } => {
-            out[..used].copy_from_slice(&own[..used]);
-            Totals::Written { days: n }
-        }
-    }
+    work_out(w, list, &mut own).ok_or(Fault::BadList)?;
+    out[..used].copy_from_slice(&own[..used]);
+    Ok(n)
 }
 
 // The summary of a list, from byte 0 of `out`; or the first refusal that applies, and `out` as it was.
-pub fn summary(s: &[u8], list: &[u8], out: &mut [u8]) -> Totals
+pub fn summary(s: &[u8], list: &[u8], out: &mut [u8]) -> Result<usize, Fault>
     ensures value { result ≡ totals_of s.now list.now (length out.old) }
     ensures out_after { out.new ≡ summary_after_of s.now list.now out.old }
 {
-    match job::admit(s) {
-        Admission::TurnedAway(r) => Totals::Job(r),
-        Admission::Admitted(w) => summary_in(w, list, out),
-    }
+    let w = job::admit(s)?;
+    summary_in(w, list, out)
 }
 
 // 11 and 12, and then the days that the piece touches.
-fn append_in(w: Window, list: &[u8], piece: &[u8], out: &mut [u8]) -> Totals
+fn append_in(w: Window, list: &[u8], piece: &[u8], out: &mut [u8]) -> Result<usize, Fault>
     requires { Good w }
-    ensures value { result ≡ totals_by (Admitted w) (length out.old) (λ v. bad_append v list.now piece.now (take (16 * days_of v) out.old)) }
+    ensures value { result ≡ totals_by (Ok w) (length out.old) (λ v. bad_append v list.now piece.now (take (16 * days_of v) out.old)) }
     ensures out_after { out.new ≡ left_by result (updated w (spans_of list.now) (span_at piece.now 0) out.old) out.old }
 {
     let n = days(w);
     let used = DAY_RECORD * n;
     if out.len() < used {
-        return Totals::SummaryRoom;
+        return Err(Fault::SummaryRoom);
     }
     if !follows(w, list, piece, &out[..used]) {
-        return Totals::BadList;
+        return Err(Fault::BadList);
     }
-    add(w, out, words::read8(piece, 8), words::read8(piece, 16));
-    Totals::Written { days: n }
+    add(w, out, u64::read(piece, 8), u64::read(piece, 16));
+    Ok(n)
 }
 
 // One later interval, appended to the list whose summary `out` holds: the days that it touches are rewritten; or the first refusal that applies, and
 // `out` as it was.
-pub fn append(s: &[u8], list: &[u8], piece: &[u8], out: &mut [u8]) -> Totals
+pub fn append(s: &[u8], list: &[u8], piece: &[u8], out: &mut [u8]) -> Result<usize, Fault>
     ensures value { result ≡ append_of s.now list.now piece.now out.old }
     ensures out_after { out.new ≡ append_after s.now list.now piece.now out.old }
 {
-    match job::admit(s) {
-        Admission::TurnedAway(r) => Totals::Job(r),
-        Admission::Admitted(w) => append_in(w, list, piece, out),
-    }
+    let w = job::admit(s)?;
+    append_in(w, list, piece, out)
 }

@@ -1,17 +1,15 @@
 -- What came of a call, in the 32 bytes that a caller in another language lends for it (document 01, "Turned away"; document 02, wish 3).
-use Rattle.std.specs.Prelude.{ℕ, ◌^◌, ◌<◌, ◌≡◌, List, ◌++◌, length}
+use Rattle.std.specs.Prelude.{ℕ, ◌^◌, ◌<◌, ◌≡◌, List, ◌++◌, length, Ok, Err}
 use Rattle.words.specs.Little.{bytes_of, read_of}
 use Rattle.refusal.specs.Refusal.{number_of, field_of, bits_of}
-use Rattle.job.specs.declared.Outcome.{Outcome}
-use Rattle.job.specs.declared.Outcome.TheVariants.{Listed, Refused}
-use Rattle.days.specs.Totals.{numbers_of}
-use Rattle.days.specs.declared.Totals.{Totals}
+use Rattle.job.specs.Outcome.{Outcome}
+use Rattle.days.specs.Totals.{Totals, numbers_of}
 use Rattle.door.specs.declared.Answer.{Answer}
 
 -- no refusal is number 0; every refusal returns 0 intervals and 0 instants asked
 abbrev pub answer_of : Outcome → Answer
-answer_of (Listed intervals asked) = record { refusal = 0; field = 0; number = 0; intervals = intervals; asked = asked }
-answer_of (Refused r) = record { refusal = number_of r; field = field_of r; number = bits_of r; intervals = 0; asked = 0 }
+answer_of (Ok f) = record { refusal = 0; field = 0; number = 0; intervals = f.intervals; asked = f.asked }
+answer_of (Err r) = record { refusal = number_of r; field = field_of r; number = bits_of r; intervals = 0; asked = 0 }
 
 -- of totals by day: the days written stand where a list's intervals do, and no instant was asked
 abbrev pub totals_answer : Totals → Answer

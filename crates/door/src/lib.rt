@@ -8,8 +8,10 @@ ghost use Rattle.days.specs.Totals.{summary_after_of, append_after};
 ghost use Rattle.door.specs.Answer.{answer_of, totals_answer, answer_bytes, answer_in, AnswerSized};
 ghost use Rattle.door.specs.Door.{heard_in, returned_of, list_told, days_told, append_told, behind, answer_behind, ReadsBack};
 
-use days::Totals;
-use job::Outcome;
+use days::Fault;
+use finder::Found;
+use refusal::Refusal;
+use words::Word;
 
 // What a call returns where an answer can be told, and where none can.
 const TOLD: u32 = 1;
@@ -27,38 +29,42 @@ pub struct Answer {
 }
 
 // An outcome in numbers.
-fn answer_of(o: Outcome) -> Answer
-    ensures { result ≡ answer_of o }
-{
-    match o {
-        Outcome::Listed { intervals, asked } => Answer {
-            refusal: 0,
-            field: 0,
-            number: 0,
-            intervals: intervals as u64,
-            asked,
-        },
-        Outcome::Refused(r) => Answer {
-            refusal: refusal::number(r),
-            field: refusal::field(r),
-            number: refusal::bits(r),
-            intervals: 0,
-            asked: 0,
-        },
+impl From<Result<Found, Refusal>> for Answer {
+    ghost from_gives = { λ o a. a ≡ answer_of o };
+
+    fn from(o: Result<Found, Refusal>) -> Answer {
+        match o {
+            Ok(f) => Answer {
+                refusal: 0,
+                field: 0,
+                number: 0,
+                intervals: f.intervals as u64,
+                asked: f.asked,
+            },
+            Err(r) => Answer {
+                refusal: r.number(),
+                field: r.field(),
+                number: r.bits(),
+                intervals: 0,
+                asked: 0,
+            },
+        }
     }
 }
 
 // Totals in numbers: the days written stand where a list's intervals do, and no instant was asked.
-fn totals_answer(t: Totals) -> Answer
-    ensures { result ≡ totals_answer t }
-{
-    let n = days::told(t);
-    Answer {
-        refusal: n.refusal,
-        field: n.field,
-        number: n.bits,
-        intervals: n.days as u64,
-        asked: 0,
+impl From<Result<usize, Fault>> for Answer {
+    ghost from_gives = { λ t a. a ≡ totals_answer t };
+
+    fn from(t: Result<usize, Fault>) -> Answer {
+        let n = days::told(t);
+        Answer {
+            refusal: n.refusal,
+            field: n.field,
+            number: n.bits,
+            intervals: n.days as u64,
+            asked: 0,
+        }
     }
 }
 
@@ -75,11 +81,11 @@ fn write(answer: &mut [u8], a: Answer)
     ensures answer_after { answer.new ≡ answer_bytes a }
     ensures answer_after_2 { answer_in answer.new ≡ a }
 {
-    words::put4(answer, 0, a.refusal);
-    words::put4(answer, 4, a.field);
-    words::put8(answer, 8, a.number);
-    words::put8(answer, 16, a.intervals);
-    words::put8(answer, 24, a.asked);
+    a.refusal.put(answer, 0);
+    a.field.put(answer, 4);
+    a.number.put(answer, 8);
+    a.intervals.put(answer, 16);
+    a.asked.put(answer, 24);
 }
 
 // One job: its intervals in `list` from byte 0, or why it is turned away and `list` as it was; what came of it in `answer`, and 1. Where
@@ -93,7 +99,7 @@ pub fn quechotzal_list(record: &[u8], list: &mut [u8], answer: &mut [u8]) -> u32
     if !is_heard(answer) {
         return UNHEARD;
     }
-    write(answer, answer_of(job::list(record, list)));
+    write(answer, Answer::from(job::list(record, list)));
     TOLD
 }
 
@@ -108,7 +114,7 @@ pub fn quechotzal_days(record: &[u8], list: &[u8], out: &mut [u8], answer: &mut 
     if !is_heard(answer) {
         return UNHEARD;
     }
-    write(answer, totals_answer(days::summary(record, list, out)));
+    write(answer, Answer::from(days::summary(record, list, out)));
     TOLD
 }
 
@@ -131,7 +137,7 @@ pub fn quechotzal_append(
     }
     write(
         answer,
-        totals_answer(days::append(record, list, interval, summary)),
+        Answer::from(days::append(record, list, interval, summary)),
     );
     TOLD
 }

@@ -7,26 +7,25 @@ use mathlib.Core.List.{List, [], ◌∷◌, ◌++◌}
 use native.Mathlib.Omega.{arith}
 use lib.ListN.{length, take, drop, take-append-drop}
 use Rattle.refusal.specs.Refusal.{order_of}
-use Rattle.refusal.specs.Rows.{when, ◌then◌, first, row_at, Gives, Passes}
+use Rattle.std.specs.Prelude.{Ok, Err}
+use Rattle.refusal.specs.Rows.{Verdict, passed, when, ◌then◌, first, row_at, Gives, Passes}
 use Rattle.refusal.specs.declared.Refusal.{Refusal}
-use Rattle.refusal.specs.declared.Verdict.{Verdict}
-use Rattle.refusal.specs.declared.Verdict.TheVariants.{Passed, Refused}
 
 -- no row both passes and refuses
-pub not-both : {v : Verdict} {r : Refusal} → v ≡ Passed → v ≡ Refused r → ⊥
+pub not-both : {v : Verdict} {r : Refusal} → v ≡ passed → v ≡ Err r → ⊥
 not-both p h = let z : ◌≡◌ {A = ℕ} 0 1 = cc in absurd (omega arith)
 
 -- ---- one row after another
 
 pub then_assoc : (a b c : Verdict) → (a then b) then c ≡ a then b then c
 unfolding ◌then◌
-then_assoc Passed b c = refl
-then_assoc (Refused r) b c = refl
+then_assoc (Ok t) b c = refl
+then_assoc (Err r) b c = refl
 
-pub then-passed : (a : Verdict) → a then Passed ≡ a
+pub then-passed : (a : Verdict) → a then passed ≡ a
 unfolding ◌then◌
-then-passed Passed = refl
-then-passed (Refused r) = refl
+then-passed (Ok t) = refl
+then-passed (Err r) = refl
 
 -- what is said of each of two rows is said of both
 pub then-told : {v a b a' b' : Verdict} → v ≡ (a then b) → a ≡ a' → b ≡ b' → v ≡ (a' then b')
@@ -34,11 +33,11 @@ then-told {v} {a} {b} {a'} e p q = e ∙ ap (λ (x : Verdict). x then b) p ∙ a
 
 -- of two parts the first stops, or lets the second decide
 module _ (v a b : Verdict) (parts : v ≡ (a then b)) where
-  pub stops : (r : Refusal) → a ≡ Refused r → v ≡ Refused r
+  pub stops : (r : Refusal) → a ≡ Err r → v ≡ Err r
   unfolding ◌then◌
   stops r h = parts ∙ rw h
 
-  pub goes : a ≡ Passed → v ≡ b
+  pub goes : a ≡ passed → v ≡ b
   unfolding ◌then◌
   goes h = parts ∙ rw h
 
@@ -82,55 +81,55 @@ first_parts k vs z =
 
 -- ---- a row and its test
 
-pub when-refused : (test : Bool) (q r : Refusal) → when test q ≡ Refused r → (test ≡ true) × (q ≡ r)
+pub when-refused : (test : Bool) (q r : Refusal) → when test q ≡ Err r → (test ≡ true) × (q ≡ r)
 when-refused true q r h = (refl, cc)
 when-refused false q r h = absurd (not-both refl h)
 
-pub when-passed : (test : Bool) (q : Refusal) → when test q ≡ Passed → test ≡ false
+pub when-passed : (test : Bool) (q : Refusal) → when test q ≡ passed → test ≡ false
 when-passed true q h = absurd (not-both h refl)
 when-passed false q h = refl
 
 -- ---- every row passes
 
-first_passes : (vs : List Verdict) → first vs ≡ Passed → Passes vs
+first_passes : (vs : List Verdict) → first vs ≡ passed → Passes vs
 unfolding first ◌then◌ row_at
 first_passes [] h k = refl
-first_passes (Passed ∷ vs) h zero = refl
-first_passes (Passed ∷ vs) h (suc k) = first_passes vs h k
-first_passes (Refused r ∷ vs) h k = absurd (not-both h refl)
+first_passes (Ok t ∷ vs) h zero = refl
+first_passes (Ok t ∷ vs) h (suc k) = first_passes vs h k
+first_passes (Err r ∷ vs) h k = absurd (not-both h refl)
 
-passes-first : (vs : List Verdict) → Passes vs → first vs ≡ Passed
+passes-first : (vs : List Verdict) → Passes vs → first vs ≡ passed
 unfolding first ◌then◌ row_at
 passes-first [] h = refl
 passes-first (v ∷ vs) h = rw (h 0) (passes-first vs (λ k. h (suc k)))
 
-pub passed-exactly : (vs : List Verdict) → (first vs ≡ Passed) ↔ Passes vs
+pub passed-exactly : (vs : List Verdict) → (first vs ≡ passed) ↔ Passes vs
 passed-exactly vs = (first_passes vs, passes-first vs)
 
 -- ---- some row refuses
 
 module _ {r : Refusal} where
-  later : {vs : List Verdict} {k : ℕ} → Gives vs k r → Gives (Passed ∷ vs) (suc k) r
+  later : {vs : List Verdict} {k : ℕ} → Gives vs k r → Gives (passed ∷ vs) (suc k) r
   unfolding row_at
   later {vs} {k} g = record { applies = g.applies; none_before = none }
     where
-      none : (j : ℕ) → j < suc k → row_at (Passed ∷ vs) j ≡ Passed
+      none : (j : ℕ) → j < suc k → row_at (passed ∷ vs) j ≡ passed
       none zero h = refl
       none (suc j) h = g.none_before j (omega arith)
 
-  first_gives : (vs : List Verdict) → first vs ≡ Refused r → (k : ℕ) × Gives vs k r
+  first_gives : (vs : List Verdict) → first vs ≡ Err r → (k : ℕ) × Gives vs k r
   unfolding first ◌then◌ row_at
   first_gives [] h = absurd (not-both refl h)
-  first_gives (Refused q ∷ vs) h = (0, record { applies = h; none_before = λ j l. absurd (omega arith) })
-  first_gives (Passed ∷ vs) h = let g = first_gives vs h in (suc g.0, later g.1)
+  first_gives (Err q ∷ vs) h = (0, record { applies = h; none_before = λ j l. absurd (omega arith) })
+  first_gives (Ok t ∷ vs) h = let g = first_gives vs h in (suc g.0, later g.1)
 
-  gives_first : (vs : List Verdict) (k : ℕ) → Gives vs k r → first vs ≡ Refused r
+  gives_first : (vs : List Verdict) (k : ℕ) → Gives vs k r → first vs ≡ Err r
   unfolding first ◌then◌ row_at
   gives_first [] k g = absurd (not-both refl g.applies)
-  gives_first (Refused q ∷ vs) zero g = g.applies
-  gives_first (Refused q ∷ vs) (suc k) g = absurd (not-both (g.none_before 0 (omega arith)) refl)
-  gives_first (Passed ∷ vs) zero g = absurd (not-both refl g.applies)
-  gives_first (Passed ∷ vs) (suc k) g = gives_first vs k (record { applies = g.applies; none_before = λ j l. g.none_before (suc j) (omega arith) })
+  gives_first (Err q ∷ vs) zero g = g.applies
+  gives_first (Err q ∷ vs) (suc k) g = absurd (not-both (g.none_before 0 (omega arith)) refl)
+  gives_first (Ok t ∷ vs) zero g = absurd (not-both refl g.applies)
+  gives_first (Ok t ∷ vs) (suc k) g = gives_first vs k (record { applies = g.applies; none_before = λ j l. g.none_before (suc j) (omega arith) })
 
 -- ---- what holds of each row's refusals holds of the one that is given
 
@@ -138,14 +137,14 @@ infixr 10 ◌also◌
 -- each row of a table, counted from n, gives only refusals r with Q n r
 pub data Each (Q : ℕ → Refusal → Type 0) : ℕ → List Verdict → Type 0 where
   done : {n : ℕ} → Each Q n []
-  ◌also◌ : {n : ℕ} {v : Verdict} {vs : List Verdict} → ((r : Refusal) → v ≡ Refused r → Q n r) → Each Q (suc n) vs → Each Q n (v ∷ vs)
+  ◌also◌ : {n : ℕ} {v : Verdict} {vs : List Verdict} → ((r : Refusal) → v ≡ Err r → Q n r) → Each Q (suc n) vs → Each Q n (v ∷ vs)
 
 -- each row gives only refusals whose order is its own
 abbrev pub Ordered : List Verdict → Type 0
 Ordered vs = Each (λ n r. order_of r ≡ n) 0 vs
 
 module _ {Q : ℕ → Refusal → Type 0} where
-  each_at : (n : ℕ) (vs : List Verdict) → Each Q n vs → (k : ℕ) (r : Refusal) → row_at vs k ≡ Refused r → Q (n + k) r
+  each_at : (n : ℕ) (vs : List Verdict) → Each Q n vs → (k : ℕ) (r : Refusal) → row_at vs k ≡ Err r → Q (n + k) r
   unfolding row_at
   each_at n [] done k r h = absurd (not-both refl h)
   each_at n (v ∷ vs) (own also rest) zero r h = let same : n ≡ n + 0 = omega arith in subst (λ (m : ℕ). Q m r) same (own r h)
@@ -153,7 +152,7 @@ module _ {Q : ℕ → Refusal → Type 0} where
       let same : suc n + k ≡ n + suc k = omega arith in
       subst (λ (m : ℕ). Q m r) same (each_at (suc n) vs rest k r h)
 
-  pub first-each : (vs : List Verdict) → Each Q 0 vs → (r : Refusal) → first vs ≡ Refused r → (k : ℕ) × Q k r
+  pub first-each : (vs : List Verdict) → Each Q 0 vs → (r : Refusal) → first vs ≡ Err r → (k : ℕ) × Q k r
   first-each vs all r h = let g = first_gives vs h in (_, each_at 0 vs all g.0 r g.1.applies)
 
   pub each_weaker : {R : ℕ → Refusal → Type 0} → ((n : ℕ) (r : Refusal) → Q n r → R n r) → {n : ℕ} {vs : List Verdict} → Each Q n vs → Each R n vs
@@ -169,13 +168,13 @@ module _ {Q : ℕ → Refusal → Type 0} where
 
 -- ---- each refusal has its own row
 
-pub when-order : (test : Bool) (q r : Refusal) → when test q ≡ Refused r → order_of r ≡ order_of q
+pub when-order : (test : Bool) (q r : Refusal) → when test q ≡ Err r → order_of r ≡ order_of q
 when-order test q r h = ap order_of (sym (when-refused test q r h).1)
 
-pub first-exactly : (vs : List Verdict) → Ordered vs → (r : Refusal) → (first vs ≡ Refused r) ↔ Gives vs (order_of r) r
+pub first-exactly : (vs : List Verdict) → Ordered vs → (r : Refusal) → (first vs ≡ Err r) ↔ Gives vs (order_of r) r
 first-exactly vs p r = (there, gives_first vs (order_of r))
   where
-    there : first vs ≡ Refused r → Gives vs (order_of r) r
+    there : first vs ≡ Err r → Gives vs (order_of r) r
     there h =
         let g = first_gives vs h in
         let e : order_of r ≡ g.0 = each_at 0 vs p g.0 r g.1.applies ∙ omega arith in

@@ -25,10 +25,10 @@ pub enum Refusal {
 fn pattern(x: f64) -> u64
     ensures { result ≡ to_bits binary64 x }
 {
-    if x == x {
-        f64::to_bits(x)
-    } else {
+    if x.is_nan() {
         0x7ff8_0000_0000_0000
+    } else {
+        x.to_bits()
     }
 }
 
@@ -56,8 +56,7 @@ impl Refusal {
         ensures { result ≡ field_of self }
     {
         match self {
-            Refusal::NotFinite { field, .. } => field,
-            Refusal::OutOfRange { field, .. } => field,
+            Refusal::NotFinite { field, .. } | Refusal::OutOfRange { field, .. } => field,
             _ => 0,
         }
     }
@@ -67,8 +66,7 @@ impl Refusal {
         ensures { result ≡ value_of self }
     {
         match self {
-            Refusal::NotFinite { value, .. } => value,
-            Refusal::OutOfRange { value, .. } => value,
+            Refusal::NotFinite { value, .. } | Refusal::OutOfRange { value, .. } => value,
             Refusal::TooClose { distance } => distance,
             _ => 0.0,
         }

@@ -1,27 +1,14 @@
--- `refusal::pattern` meets its contract: only a NaN differs from itself.
-use mathlib.Core.Path.{◌≡◌, refl, sym, ap, subst, ◌∙◌}
-use mathlib.Core.Bool.{Bool, true, false, not}
-use lib.Dec.{T}
-use lib.Ieee.{Float, nan, inf, fin, binary64, eq, ne, is_nan, to_bits}
-use lib.Ieee.Compare.{differs_from_itself}
+-- `refusal::pattern` meets its contract: there is one NaN, and its bits are the constant's.
+use mathlib.Core.Path.{◌≡◌, refl, sym, ◌∙◌}
+use mathlib.Core.Bool.{true}
+use lib.Ieee.{Float, nan, inf, fin, binary64, is_nan, to_bits}
 use Rattle.refusal.proofs.pattern.Goals as goal
 
-no_nan : (x : Float) → eq x x ≡ true → T (not (is_nan x))
-unfolding eq is_nan
-no_nan nan h = subst T (sym h) tt
-no_nan (inf s) h = tt
-no_nan (fin s m e) h = tt
+plain : (x : Float) → is_nan x ≡ true → 0x7ff8_0000_0000_0000 ≡ to_bits binary64 x
+unfolding is_nan to_bits
+plain nan h = refl
+plain (inf s) h = cc
+plain (fin s m e) h = cc
 
-a-nan : (x : Float) → eq x x ≡ false → x ≡ nan
-unfolding ne
-a-nan x h = differs_from_itself x (subst (λ (b : Bool). T (not b)) (sym h) tt)
-
-plain : to_bits binary64 nan ≡ 0x7ff8_0000_0000_0000
-unfolding to_bits
-plain = refl
-
-pub float_to_bits-result : goal.float_to_bits-result
-float_to_bits-result c = no_nan c.args.x c.if-x.true
-
-pub returns-else-x : goal.returns-else-x
-returns-else-x c = sym (ap (to_bits binary64) (a-nan c.args.x c.if-x.false) ∙ plain)
+pub returns-then-is_nan : goal.returns-then-is_nan
+returns-then-is_nan c = plain c.args.x (sym c.is_nan.ensures.value ∙ c.if-is_nan.true)

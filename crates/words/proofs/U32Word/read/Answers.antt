@@ -1,4 +1,4 @@
--- `words::read4` meets its contract: the bytes one by one, by the law of one byte and the rest.
+-- `u32::read` meets its contract: the bytes one by one, by the law of one byte and the rest.
 use Prim.Native.Nat.{ℕ, ◌+◌, ◌*◌}
 use mathlib.Core.Path.{◌≡◌}
 use mathlib.Core.List.{List}
@@ -6,7 +6,7 @@ use native.Mathlib.Omega.{arith}
 use lib.ListN.{get_or}
 use Rattle.words.specs.Little.{read_of, Holds}
 use Rattle.words.proofs.Laws.{read_none, read_byte}
-use Rattle.words.proofs.read4.Goals as goal
+use Rattle.words.proofs.U32Word.read.Goals as goal
 
 -- four bytes, one by one
 four : (s : List ℕ) (at : ℕ) → Holds 4 s at → read_of 4 s at ≡ get_or s at 0 + 256 * (get_or s (at + 1) 0 + 256 * (get_or s (at + 2) 0 + 256 * get_or s (at + 3) 0))

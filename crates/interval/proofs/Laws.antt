@@ -5,11 +5,11 @@ use mathlib.Core.List.{List, [], ◌++◌, append_assoc, append-nil}
 use native.Mathlib.Omega.{arith}
 use lib.ListN.{length, length-append}
 use borrow.Author.Tests.{eq-eqb, ne_eqb}
+use Rattle.std.specs.Prelude.{Some, None}
 use Rattle.words.specs.Little.{bytes_of, read_of, put_of, Bytes}
 use Rattle.words.proofs.Stores.{sets-append, sets-all}
 use Rattle.words.proofs.Laws.{length-bytes, put-read, read_among}
 use Rattle.interval.specs.declared.Interval.{Interval}
-use Rattle.interval.specs.declared.Parsed.TheVariants.{Record, NoRecord}
 use Rattle.interval.specs.Record.{record_bytes, record_of, parsed_of, write_of, Sized}
 
 -- ---- writing
@@ -25,11 +25,11 @@ length-record r = simp (length-append, length-bytes)
 
 -- ---- any 24 bytes read as one record, and any other length answers that there is no record
 
-pub reads : (s : List ℕ) → length s ≡ 24 → parsed_of s ≡ Record (record_of s)
+pub reads : (s : List ℕ) → length s ≡ 24 → parsed_of s ≡ Some (record_of s)
 unfolding parsed_of
 reads s n = rw (eq-eqb (length s) 24 n)
 
-pub reads-not : (s : List ℕ) → (length s ≡ 24 → ⊥) → parsed_of s ≡ NoRecord
+pub reads-not : (s : List ℕ) → (length s ≡ 24 → ⊥) → parsed_of s ≡ None
 unfolding parsed_of
 reads-not s n = rw (ne_eqb (length s) 24 n)
 

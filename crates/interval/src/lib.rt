@@ -17,6 +17,7 @@ pub struct Interval {
 }
 
 // The record in the 24 bytes from `at` on; the other bytes stay.
+#[tactic(auto, using(crate::proofs::Laws::record_puts))]
 pub fn write(s: &mut [u8], at: usize, r: Interval)
     requires { Holds 24 s.old at }
     ensures { s.new ≡ write_of s.old at r }
@@ -28,6 +29,7 @@ pub fn write(s: &mut [u8], at: usize, r: Interval)
 }
 
 // The record that 24 bytes are; any other number of bytes is none.
+#[tactic(auto, unfolding(crate::specs::Record::parsed_of, crate::specs::Record::record_of))]
 pub fn read(s: &[u8]) -> Option<Interval>
     ensures { result ≡ parsed_of s.now }
 {

@@ -9,18 +9,18 @@ use Rattle.fixed.specs.Scaled.{one, at, dot_of}
 use Rattle.fixed.specs.Within.{Within, Small, Entries}
 use Rattle.fixed.proofs.Within.{small, scaled-within, small-scaled, add-within, wider}
 use Rattle.sine.proofs.Laws.{sine-small, cosine-small}
-use Rattle.rotation.specs.Rotation.{turn_of, UnitTurn, direction_of, row_p, row_q, rotation_of_of, row_of}
-use Rattle.rotation.specs.declared.Turn.{Turn}
+use Rattle.rotation.specs.CosSin.{CosSin, UnitTurn}
+use Rattle.rotation.specs.Rotation.{turn_of, direction_of, row_p, row_q, rotation_of_of, row_of}
 
 pub turn-unit : (θ : ℕ) → UnitTurn (turn_of θ)
 unfolding turn_of
 turn-unit θ = record { cos = cosine-small θ; sin = sine-small θ }
 
 -- what `turn_of` gave
-pub made-unit : {r : Turn} (θ : ℕ) → r ≡ turn_of θ → UnitTurn r
+pub made-unit : {r : CosSin} (θ : ℕ) → r ≡ turn_of θ → UnitTurn r
 made-unit θ e = rw e (turn-unit θ)
 
-pub direction-entries : {α δ : Turn} → UnitTurn α → UnitTurn δ → Entries (direction_of α δ) one
+pub direction-entries : {α δ : CosSin} → UnitTurn α → UnitTurn δ → Entries (direction_of α δ) one
 unfolding direction_of
 direction-entries hα hδ = record { e₀ = small-scaled hδ.cos hα.cos; e₁ = small-scaled hδ.cos hα.sin; e₂ = hδ.sin }
 
@@ -42,7 +42,7 @@ row-dot h k =
     (small-scaled h.e₂ k.e₂)
 
 -- P and Q are rows 0 and 1
-pub plane_row : {ω Ω i : Turn} → UnitTurn ω → UnitTurn Ω → UnitTurn i → (k : ℕ) → k < 2 → Row (row_of (rotation_of_of ω Ω i) k)
+pub plane_row : {ω Ω i : CosSin} → UnitTurn ω → UnitTurn Ω → UnitTurn i → (k : ℕ) → k < 2 → Row (row_of (rotation_of_of ω Ω i) k)
 unfolding rotation_of_of row_p row_q
 plane_row hω hΩ hi zero h = record { e₀ = search small; e₁ = search small; e₂ = search small }
 plane_row hω hΩ hi (suc zero) h = record { e₀ = search small; e₁ = search small; e₂ = search small }

@@ -2,18 +2,12 @@
 -- periapsis argument, Ω of the node, i of the inclination, α of the right ascension, δ of the declination.
 use Rattle.std.specs.Prelude.{List, [], ◌∷◌, ℕ, get_or, ℤ, neg_ℤ, ◌+ℤ◌, ◌-ℤ◌}
 use Rattle.fixed.specs.Scaled.{◌∘◌}
-use Rattle.fixed.specs.Within.{Small}
 use Rattle.sine.specs.Sine.{sine_of, cosine_of}
 use Rattle.rotation.specs.declared.Turn.{Turn}
 
 -- the turn of θ: its cosine and its sine
 unfoldable pub turn_of : ℕ → Turn
 turn_of θ = record { cos = cosine_of θ; sin = sine_of θ }
-
--- both at most one away from 0
-pub record UnitTurn (θ : Turn) : Type 0 where
-  pub cos : Small θ.cos
-  pub sin : Small θ.sin
 
 -- body direction (cos δ∘cos α, cos δ∘sin α, sin δ)
 unfoldable pub direction_of : Turn → Turn → List ℤ

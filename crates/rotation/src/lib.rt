@@ -19,14 +19,13 @@ pub struct Turn {
 }
 
 impl Model for Turn {
-    ghost use Rattle.fixed.specs.Within.{Small};
-    ghost use Rattle.rotation.specs.CosSin.{CosSin};
+    ghost use Rattle.rotation.specs.CosSin.{CosSin, UnitTurn};
 
     ghost Value = { CosSin };
 
     ghost view = { λ θ. record { cos = θ.cos; sin = θ.sin } };
 
-    ghost invariant = { λ θ. (Small θ.cos) × (Small θ.sin) };
+    ghost invariant = { λ θ. UnitTurn (record { cos = θ.cos; sin = θ.sin }) };
 
     ghost inverse = { λ θ. record { cos = θ.cos; sin = θ.sin } };
 }

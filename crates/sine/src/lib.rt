@@ -1,5 +1,4 @@
-// The sine of an angle, read between the entries of a quarter-wave table. The table is handed out once and lent as `t`: an
-// indexed constant would be copied at every read.
+// The sine of an angle, read between the entries of a quarter-wave table.
 #![tactic(auto)]
 
 ghost use Rattle.std.specs.Prelude.{◌≡◌};
@@ -9,25 +8,28 @@ mod entries;
 
 use angle::Angle;
 use entries::TABLE;
+use std::marker::Model;
 
 const SEGMENTS: u32 = 4096;
 
 // The units from one entry to the next.
 pub const SEGMENT: u32 = Angle::QUARTER.units / SEGMENTS;
 
-// The table, to be made once and lent.
-pub fn table() -> [u32; 4097]
-    ensures { result ≡ sines }
-{
-    TABLE
+// The table, which callers see as the list of its entries. It is made once and lent: an indexed constant would be copied at every read.
+#[derive(Drop)]
+pub struct Sines {
+    entries: [u32; 4097],
 }
 
-// Entry k of the table.
-fn entry(t: &[u32], k: u32) -> u32
-    requires { (t.now ≡ sines) × (IsEntry k) }
-    ensures { result ≡ entry_at k }
-{
-    t[k as usize]
+impl Model for Sines {
+    ghost use Rattle.std.specs.Prelude.{◌≡◌, ℕ, List};
+    ghost use Rattle.sine.specs.Sine.{sines};
+
+    ghost Value = { List ℕ };
+
+    ghost view = { λ t. t.entries };
+
+    ghost invariant = { λ t. t.entries ≡ sines };
 }
 
 // The value at r units of a segment that goes from low to high.
@@ -35,52 +37,66 @@ fn way(low: u32, high: u32, r: u32) -> u32
     requires { OnTheWay low high r }
     ensures { result ≡ way_of low high r }
 {
-    let rise = (high - low) as u64;
-    low + (rise * (r as u64) / (SEGMENT as u64)) as u32
+    let rise = u64::from(high - low);
+    low + (rise * u64::from(r) / u64::from(SEGMENT)) as u32
 }
 
-// The reading at g units of the first quarter turn, before its end.
-fn reading(t: &[u32], g: u32) -> u32
-    requires { (t.now ≡ sines) × (InQuarter g) }
-    ensures { result ≡ reading_of g }
-{
-    let k = g / SEGMENT;
-    way(entry(t, k), entry(t, k + 1), g % SEGMENT)
-}
-
-// The sine's size: the reading at the angle folded into the first quarter turn. That an odd quadrant is read backward is a branch, and only there
-// the quarter's end is met: a search that stays in a quadrant has both foreseen.
-fn size(t: &[u32], theta: Angle) -> u32
-    requires { t.now ≡ sines }
-    ensures { result ≡ reading_of (fold_of theta.units) }
-{
-    let f = theta.units % Angle::QUARTER.units;
-    if theta.units / Angle::QUARTER.units % 2 == 0 {
-        return reading(t, f);
+impl Sines {
+    // The table, by its rule.
+    pub fn new() -> Sines
+        ensures { result ≡ sines }
+    {
+        Sines { entries: TABLE }
     }
-    if f == 0 {
-        return entry(t, SEGMENTS);
-    }
-    reading(t, Angle::QUARTER.units - f)
-}
 
-// The sine, in units of 2^-30.
-pub fn sine(t: &[u32], theta: Angle) -> i64
-    requires { t.now ≡ sines }
-    ensures { result ≡ sine_of theta.units }
-{
-    let s = size(t, theta) as i64;
-    if theta.units < Angle::HALF.units {
-        s
-    } else {
-        -s
+    // Entry k.
+    fn entry(&self, k: u32) -> u32
+        requires { IsEntry k }
+        ensures { result ≡ entry_at k }
+    {
+        self.entries[k as usize]
     }
-}
 
-// The cosine, in units of 2^-30.
-pub fn cosine(t: &[u32], theta: Angle) -> i64
-    requires { t.now ≡ sines }
-    ensures { result ≡ cosine_of theta.units }
-{
-    sine(t, theta.add(Angle::QUARTER))
+    // The reading at g units of the first quarter turn, before its end.
+    fn reading(&self, g: u32) -> u32
+        requires { InQuarter g }
+        ensures { result ≡ reading_of g }
+    {
+        let k = g / SEGMENT;
+        way(self.entry(k), self.entry(k + 1), g % SEGMENT)
+    }
+
+    // The sine's size: the reading at the angle folded into the first quarter turn. That an odd quadrant is read backward is a branch, and only
+    // there the quarter's end is met: a search that stays in a quadrant has both foreseen.
+    fn size(&self, theta: Angle) -> u32
+        ensures { result ≡ reading_of (fold_of theta.units) }
+    {
+        let f = theta.units % Angle::QUARTER.units;
+        if theta.units / Angle::QUARTER.units % 2 == 0 {
+            return self.reading(f);
+        }
+        if f == 0 {
+            return self.entry(SEGMENTS);
+        }
+        self.reading(Angle::QUARTER.units - f)
+    }
+
+    // The sine, in units of 2^-30.
+    pub fn sine(&self, theta: Angle) -> i64
+        ensures { result ≡ sine_of theta.units }
+    {
+        let s = i64::from(self.size(theta));
+        if theta.units < Angle::HALF.units {
+            s
+        } else {
+            -s
+        }
+    }
+
+    // The cosine, in units of 2^-30.
+    pub fn cosine(&self, theta: Angle) -> i64
+        ensures { result ≡ cosine_of theta.units }
+    {
+        self.sine(theta.add(Angle::QUARTER))
+    }
 }

@@ -7,9 +7,7 @@ use Rattle.rotation.proofs.direction.Goals as goal
 pub returns : goal.returns
 unfolding direction_of
 returns c =
-    let α = c.requires.0 in
-    let δ = c.requires.1 in
-    entries (direction_of c.args.ascension c.args.declination)
-    (two c.unit.ensures δ.cos α.cos).is
-    (two c.unit-2.ensures δ.cos α.sin).is
-    (back δ.sin tt)
+    let α = c.ascension.invariant in
+    let δ = c.declination.invariant in
+    rw (← c.ascension.view_is, ← c.declination.view_is)
+    (entries (direction_of _ _) (two c.unit.ensures δ.cos α.cos).is (two c.unit-2.ensures δ.cos α.sin).is (back δ.sin tt))

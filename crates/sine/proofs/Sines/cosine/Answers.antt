@@ -1,8 +1,8 @@
--- `sine::cosine` meets its contract, by those of the angle's sum and of the sine.
+-- `Sines::cosine` meets its contract, by those of the angle's sum and of the sine.
 use mathlib.Core.Path.{◌∙◌, ap}
 use borrow.Author.Rules.{rules}
 use Rattle.sine.specs.Sine.{sine_of, cosine_of}
-use Rattle.sine.proofs.cosine.Goals as goal
+use Rattle.sine.proofs.Sines.cosine.Goals as goal
 
 pub returns : goal.returns
 unfolding cosine_of

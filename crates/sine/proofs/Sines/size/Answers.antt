@@ -1,10 +1,10 @@
--- `sine::size` meets its contract: by the quadrant, and in an odd one by whether its rest is 0.
+-- `Sines::size` meets its contract: by the quadrant, and in an odd one by whether its rest is 0.
 use mathlib.Core.Path.{◌≡◌, ◌∙◌, sym, ap}
 use native.Mathlib.Omega.{arith}
 use Rattle.angle.specs.Turn.{quarter_turn}
 use Rattle.sine.specs.Sine.{reading_of, fold_of}
 use Rattle.sine.proofs.Laws.{reading-end, fold_even, fold_odd}
-use Rattle.sine.proofs.size.Goals as goal
+use Rattle.sine.proofs.Sines.size.Goals as goal
 
 pub returns-then-theta-eq0 : goal.returns-then-theta-eq0
 returns-then-theta-eq0 c =

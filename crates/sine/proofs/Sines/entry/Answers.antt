@@ -1,0 +1,16 @@
+-- `Sines::entry` meets its contract: the table is the list of the rule's values.
+use mathlib.Core.Path.{ap, ◌∙◌}
+use mathlib.Core.List.{List}
+use Prim.Native.Nat.{ℕ}
+use native.Mathlib.Omega.{arith}
+use lib.ListN.{get_or, length}
+use Rattle.sine.proofs.Tabulate.{sines-length, sines-at}
+use Rattle.sine.proofs.Sines.entry.Goals as goal
+
+pub bounds-self-inside-k : goal.bounds-self-inside-k
+bounds-self-inside-k c = omega (arith, ap length c.self.invariant, sines-length)
+
+pub returns : goal.returns
+returns c =
+    let k = c.args.k in
+    ap (λ (l : List ℕ). get_or l k 0) c.self.invariant ∙ sines-at k c.requires

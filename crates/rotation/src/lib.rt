@@ -14,8 +14,8 @@ use std::marker::Model;
 // The cosine and the sine of one angle, in units of 2^-30, each at most one away from 0.
 #[derive(Clone, Copy)]
 pub struct Turn {
-    cos: i64,
-    sin: i64,
+    pub cos: i64,
+    pub sin: i64,
 }
 
 impl Model for Turn {

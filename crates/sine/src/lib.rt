@@ -18,7 +18,7 @@ pub const SEGMENT: u32 = Angle::QUARTER.units / SEGMENTS;
 // The table, which callers see as the list of its entries. It is made once and lent: an indexed constant would be copied at every read.
 #[derive(Drop)]
 pub struct Sines {
-    entries: [u32; 4097],
+    pub entries: [u32; 4097],
 }
 
 impl Model for Sines {

@@ -51,7 +51,7 @@ module _ {f : ℕ → Bool} {g : ℕ → Sight} {w : Window} {s : State} {b : �
     same : f s.at ≡ f b
     same = sym along.stretch.answered ∙ sym (beq_true yes' s.was agree) ∙ at_b
 
-    pub stays : Made f g w s b out (record { at = b; was = yes'; first = s.first; begun = s.begun; count = s.count; asked = s.asked + 1 }) out
+    pub stays : Made f g w s b out (record { at = b; was = s.was; first = s.first; begun = s.begun; count = s.count; asked = s.asked + 1 }) out
     unfolding advanced records_of
     stays =
         let none : s.count ≡ s.count + 0 = omega arith in
@@ -61,7 +61,7 @@ module _ {f : ℕ → Bool} {g : ℕ → Sight} {w : Window} {s : State} {b : �
           middles-same f s.at b (rw (← along.stretch.answered, ← at_b) agree),
           ← along.begun,
         )
-        (cc, refl)
+        (cc same, refl)
 
   -- a step whose ends differ
   module _ {e : Edge} (p : Parted f g w s b out yes' e) where

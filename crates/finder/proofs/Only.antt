@@ -8,9 +8,9 @@ use Rattle.finder.proofs.list.Reads as list-reads
 pub steps_only : OneResult 0 steps.ps steps.r steps-reads.Post
 steps_only κs a x y s t p q = by_value _ p q
 
-pub list_only : OneResult 2 list.ps list.r list-reads.Post
+pub list_only : OneResult 3 list.ps list.r list-reads.Post
 list_only κs a x y s t p q = by_value _ p.0 q.0
 
 -- and every byte of the lent list
-pub list-bytes_only : OneList 2 list.ps list.r (λ κs s. s.1.1.1.1.0.now) list-reads.Post
+pub list-bytes_only : OneList 3 list.ps list.r (λ κs s. s.1.1.1.0.now) list-reads.Post
 list-bytes_only κs a x y s t p q = by_value _ p.1 q.1

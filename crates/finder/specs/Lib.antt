@@ -6,3 +6,4 @@ pub mod Flags
 pub mod Records
 pub mod Fits
 pub mod State
+pub mod Asking

@@ -31,18 +31,14 @@ pub struct Found {
     pub asked: u64,
 }
 
-// The interval that is open: where it began, and its flags for that.
-#[derive(Clone, Copy)]
-struct Open {
-    pub first: u64,
-    pub begun: u32,
-}
-
-// The finder has come to the sample `at`. Where that answered yes, an interval is open there. So far it wrote `count` intervals and asked `asked` instants.
+// The finder has come to the sample `at`, which answered `was`; where that is yes, the open interval began at `first`, with the flags `begun`.
+// So far it wrote `count` intervals and asked `asked` instants.
 #[derive(Clone, Copy)]
 struct State {
     pub at: u64,
-    pub open: Option<Open>,
+    pub was: bool,
+    pub first: u64,
+    pub begun: u32,
     pub count: usize,
     pub asked: u64,
 }
@@ -63,6 +59,7 @@ fn bit(value: u32, differs: bool) -> u32
 }
 
 // What is asked of which window.
+#[derive(Drop)]
 struct Finder<'a> {
     sky: &'a Sky<'a>,
     question: u32,
@@ -71,15 +68,18 @@ struct Finder<'a> {
 }
 
 // The search in a step whose low end answered `was`: it moves where the middle answers so too.
+#[derive(Drop)]
 struct Steady<'a> {
     finder: &'a Finder<'a>,
     was: bool,
 }
 
 impl Search for Steady<'_> {
+    ghost use Rattle.finder.specs.Asking.{answers};
+
     ghost can_ask = { λ s middle. ⊤ };
 
-    ghost moves = { λ s middle. beq (answer_at s.finder.now.sky.now s.finder.now.question middle) s.was };
+    ghost moves = { λ s middle. beq (answers s.finder.now middle) s.was };
 
     fn moves(&self, middle: u64) -> bool {
         self.finder.answer(middle) == self.was
@@ -87,9 +87,11 @@ impl Search for Steady<'_> {
 }
 
 impl Finder<'_> {
+    ghost use Rattle.finder.specs.Asking.{answers, sights};
+
     // The answer at an instant.
     fn answer(&self, at: u64) -> bool
-        ensures { result ≡ answer_at self.now.sky.now self.now.question at }
+        ensures { result ≡ answers self.now at }
     {
         self.sky.answer(self.question, at)
     }
@@ -104,16 +106,16 @@ impl Finder<'_> {
 
     // The neighbours at which a step changes whose low end answered `was`.
     fn halve(&self, low: u64, high: u64, was: bool) -> Edge
-        requires { Stretch (answer_at self.now.sky.now self.now.question) low high was }
-        ensures { result ≡ edge (answer_at self.now.sky.now self.now.question) low high }
+        requires { Stretch (answers self.now) low high was }
+        ensures { result ≡ edge (answers self.now) low high }
     {
         halving::halve(&Steady { finder: self, was }, low, high)
     }
 
     // Why the answer changes between neighbours, of which the low one answered `was`: 4 where hidden differs, 8 where up does.
     fn why(&self, e: Edge, was: bool) -> u32
-        requires { Turned (answer_at self.now.sky.now self.now.question) e was }
-        ensures { result ≡ differing 4 8 (sight_at self.now.sky.now self.now.question e.low) (sight_at self.now.sky.now self.now.question e.high) }
+        requires { Turned (answers self.now) e was }
+        ensures { result ≡ differing 4 8 (sights self.now e.low) (sights self.now e.high) }
     {
         let low = self.sky.sight(self.question, e.low, was);
         let high = self.sky.sight(self.question, e.high, !was);
@@ -121,68 +123,67 @@ impl Finder<'_> {
     }
 
     // Closes the open interval at `last`, with these flags for it: the record after the `count` that are there.
-    fn put(&self, out: &mut [u8], count: usize, open: Open, last: u64, flags: u32)
-        requires { (RoomFor count 1 out.old) × (Flagged open flags) }
-        ensures { out.new ≡ closed_out self.now.window count open last flags out.old }
+    fn put(&self, out: &mut [u8], s: State, last: u64, flags: u32)
+        requires { (RoomFor s.count 1 out.old) × (Flagged s flags) }
+        ensures { out.new ≡ closed_out self.now.window s last flags out.old }
     {
         let r = Interval {
             job: self.window.job,
-            flags: open.begun + flags,
-            first: open.first,
+            flags: s.begun + flags,
+            first: s.first,
             last,
         };
-        interval::write(out, 24 * count, r);
+        interval::write(out, 24 * s.count, r);
     }
 
     // One step, to the sample b. From no to yes: the high neighbour is a first. From yes to no: the low one is a last. The flags of a last are
     // four times those of a first.
     fn advance(&self, out: &mut [u8], s: State, b: u64) -> State
-        requires { Along (answer_at self.now.sky.now self.now.question) (sight_at self.now.sky.now self.now.question) self.now.window s b out.old }
-        ensures value { result ≡ advanced (answer_at self.now.sky.now self.now.question) (sight_at self.now.sky.now self.now.question) self.now.window s b }
-        ensures out_after { out.new ≡ written (sight_at self.now.sky.now self.now.question) self.now.window out.old s.count (closed_in (answer_at self.now.sky.now self.now.question) (first_of s) s.at b) }
+        requires { Along (answers self.now) (sights self.now) self.now.window s b out.old }
+        ensures value { result ≡ advanced (answers self.now) (sights self.now) self.now.window s b }
+        ensures out_after { out.new ≡ written (sights self.now) self.now.window out.old s.count (closed_in (answers self.now) s.first s.at b) }
     {
-        let was = s.open.is_some();
-        if self.answer(b) == was {
+        let yes = self.answer(b);
+        if yes == s.was {
             return State {
                 at: b,
                 asked: s.asked + 1,
                 ..s
             };
         }
-        let e = self.halve(s.at, b, was);
+        let e = self.halve(s.at, b, s.was);
         let asked = s.asked + 1 + e.asked;
-        let flags = self.why(e, was);
-        match s.open {
-            None => State {
+        let flags = self.why(e, s.was);
+        if yes {
+            return State {
                 at: b,
-                open: Some(Open {
-                    first: e.high,
-                    begun: flags,
-                }),
+                was: yes,
+                first: e.high,
+                begun: flags,
                 count: s.count,
                 asked,
-            },
-            Some(open) => {
-                self.put(out, s.count, open, e.low, 4 * flags);
-                State {
-                    at: b,
-                    open: None,
-                    count: s.count + 1,
-                    asked,
-                }
-            }
+            };
+        }
+        self.put(out, s, e.low, 4 * flags);
+        State {
+            at: b,
+            was: yes,
+            first: s.first,
+            begun: s.begun,
+            count: s.count + 1,
+            asked,
         }
     }
 
     // The end: a yes at the last sample closes an interval there.
     fn close(&self, out: &mut [u8], s: State) -> Found
-        requires { (RoomFor s.count (length (ended (was_of s) (first_of s) s.at)) out.old) }
+        requires { (RoomFor s.count (length (ended s.was s.first s.at)) out.old) × (Flagged s 2) }
         ensures value { result ≡ finished s }
         ensures out_after { out.new ≡ finished_out self.now.window s out.old }
     {
         let mut intervals = s.count;
-        if let Some(open) = s.open {
-            self.put(out, s.count, open, s.at, 2);
+        if s.was {
+            self.put(out, s, s.at, 2);
             intervals += 1;
         }
         Found {
@@ -194,21 +195,14 @@ impl Finder<'_> {
     // The list, from byte 0 of `out`, and what was counted.
     fn list(&self, out: &mut [u8]) -> Found
         requires { HasRoom self.now.window out.old }
-        ensures value { result ≡ found_of (answer_at self.now.sky.now self.now.question) self.now.window }
-        ensures out_after { out.new ≡ written (sight_at self.now.sky.now self.now.question) self.now.window out.old 0 (list_of (answer_at self.now.sky.now self.now.question) self.now.window) }
+        ensures value { result ≡ found_of (answers self.now) self.now.window }
+        ensures out_after { out.new ≡ written (sights self.now) self.now.window out.old 0 (list_of (answers self.now) self.now.window) }
     {
-        let start = self.window.t0;
-        let open = if self.answer(start) {
-            Some(Open {
-                first: start,
-                begun: 1,
-            })
-        } else {
-            None
-        };
         let mut s = State {
-            at: start,
-            open,
+            at: self.window.t0,
+            was: self.answer(self.window.t0),
+            first: self.window.t0,
+            begun: 1,
             count: 0,
             asked: 1,
         };

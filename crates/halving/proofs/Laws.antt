@@ -127,6 +127,16 @@ module _ (moves : ℕ → Bool) where
   exactly k low asked =
       (all_asked k low (low + 2 ^ k) asked refl, (ends k low (low + 2 ^ k) asked (omega (arith, pow_pos k)) (omega arith)).neighbours)
 
+  -- the ends do not depend on the count that it begins with
+  pub uncounted : (k low high a b : ℕ) → ((halve moves k low high a).low ≡ (halve moves k low high b).low) × ((halve moves k low high a).high ≡ (halve moves k low high b).high)
+  unfolding halve
+  uncounted =
+      follow (λ k low high asked e. (b : ℕ) → (e.low ≡ (halve moves k low high b).low) × (e.high ≡ (halve moves k low high b).high))
+      (λ low high asked b. (refl, refl))
+      (λ k low high asked near b. rw (halve-done k low high b near) (refl, refl))
+      (λ k low high asked e far t rest b. rw (halve-turn k low high b far, t) (rest (b + 1)))
+      (λ k low high asked e far t rest b. rw (halve-turn k low high b far, t) (rest (b + 1)))
+
   -- the count is that of the middles asked
   middles-none : (low high : ℕ) → length (middles_of moves 0 low high) ≡ 0
   unfolding middles_of

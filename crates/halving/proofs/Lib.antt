@@ -5,3 +5,4 @@ pub mod Alike
 pub mod Among
 pub mod Foretold
 pub mod Cells
+pub mod Only

@@ -1,5 +1,5 @@
 -- A loop that halves: what holds at each turn of the search that it is to make, over any yes/no answer.
-use Prim.Native.Nat.{ℕ, zero, suc, ◌+◌, ◌^◌, ◌≤◌, ◌<◌}
+use Prim.Native.Nat.{ℕ, zero, suc, ◌+◌, ◌-◌, ◌/◌, ◌^◌, ◌≤◌, ◌<◌}
 use mathlib.Core.Path.{◌≡◌, refl, sym, ◌∙◌}
 use mathlib.Core.Bool.{Bool, true, false, cond}
 use native.Mathlib.Omega.{arith}
@@ -42,8 +42,12 @@ module _ (moves : ℕ → Bool) where
     pub look_more : low + 1 < high → asked < n
     look_more far = let next = turn far in omega arith
 
-    pub look_up : low + 1 < high → moves (middle low high) ≡ true → Looking moves n e (middle low high) high (asked + 1)
-    look_up far t = rw t at (turn far)
+    -- the middle as the loop computes it, from ends whose sum need not fit
+    half : low + 1 < high → middle low high ≡ low + (high - low) / 2
+    half far = omega arith
 
-    pub look_down : low + 1 < high → moves (middle low high) ≡ false → Looking moves n e low (middle low high) (asked + 1)
-    look_down far t = rw t at (turn far)
+    pub look_up : low + 1 < high → moves (low + (high - low) / 2) ≡ true → Looking moves n e (low + (high - low) / 2) high (asked + 1)
+    look_up far t = rw (half far, t) at (turn far)
+
+    pub look_down : low + 1 < high → moves (low + (high - low) / 2) ≡ false → Looking moves n e low (low + (high - low) / 2) (asked + 1)
+    look_down far t = rw (half far, t) at (turn far)

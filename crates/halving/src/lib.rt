@@ -1,5 +1,8 @@
-// A search by halving (specs/Halving.antt, proofs/Laws.antt, proofs/Loop.antt; with less work proofs/Foretold.antt, proofs/Cells.antt): what the crates that search share.
+// A search by halving: its rule is specs/Halving.antt. Its laws are in proofs/Laws.antt; with less work it may begin in a cell (proofs/Foretold.antt, proofs/Cells.antt).
 #![tactic(auto)]
+
+ghost use Rattle.std.specs.Prelude.{◌≡◌, ℕ, ◌+◌, ◌^◌, ◌≤◌, ◌<◌, Bool};
+ghost use Rattle.halving.specs.Halving.{halve};
 
 // Where a search ends, and how many middles it asked.
 #[derive(Clone, Copy)]
@@ -7,4 +10,41 @@ pub struct Edge {
     pub low: u64,
     pub high: u64,
     pub asked: u64,
+}
+
+// What a search asks of a point.
+pub trait Search {
+    // It may ask there.
+    ghost can_ask: { Self → ℕ → Type 0 };
+
+    // The low end moves there; else the high end does.
+    ghost moves: { Self → ℕ → Bool };
+
+    fn moves(&self, middle: u64) -> bool
+        requires { can_ask self.now middle }
+        ensures { result ≡ moves self.now middle };
+}
+
+// The neighbours at which the search between two ends stops: as many halvings as the ends need.
+#[inline]
+pub fn halve<S: Search>(search: &S, low: u64, high: u64) -> Edge
+    requires ordered { low ≤ high }
+    requires askable { (m : ℕ) → low < m → m < high → S.can_ask search.now m }
+    ensures { (n : ℕ) → high ≤ low + 2 ^ n → result ≡ halve (S.moves search.now) n low high 0 }
+{
+    let mut edge = Edge {
+        low,
+        high,
+        asked: 0,
+    };
+    while edge.high - edge.low > 1 {
+        let middle = edge.low + (edge.high - edge.low) / 2;
+        edge.asked += 1;
+        if search.moves(middle) {
+            edge.low = middle;
+        } else {
+            edge.high = middle;
+        }
+    }
+    edge
 }

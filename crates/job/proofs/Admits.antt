@@ -5,25 +5,21 @@ use mathlib.Core.Logic.{◌↔◌}
 use mathlib.Core.List.{List}
 use native.Mathlib.Omega.{arith}
 use native.Mathlib.Nat.{le_refl}
-use Rattle.refusal.specs.Rows.{◌then◌, first}
+use Rattle.std.specs.Prelude.{Ok, Err}
+use Rattle.refusal.specs.Rows.{Verdict, passed, ◌then◌, first}
 use Rattle.refusal.specs.declared.Refusal.{Refusal}
-use Rattle.refusal.specs.declared.Verdict.{Verdict}
-use Rattle.refusal.specs.declared.Verdict.TheVariants as verdict
 use Rattle.refusal.proofs.Order.{stops, goes, first-exactly, passed-exactly}
 use Rattle.elements.specs.Reading.{record_rows, reading_of}
 use Rattle.elements.specs.declared.reading.Elements.{Elements}
-use Rattle.elements.specs.declared.reading.Reading.TheVariants as reading
 use Rattle.elements.proofs.Rows.{ordered}
 use Rattle.elements.proofs.Exactly.{read-exactly, refused-exactly}
+use Rattle.finder.specs.declared.Found.{Found}
 use Rattle.finder.specs.declared.Window.{Window}
 use Rattle.finder.specs.Samples.{Good}
 use Rattle.finder.specs.Records.{room_for_any}
 use Rattle.job.specs.Table.{window_of, question_of, room_row, rows_to_question, rows_from_window, table_but_room}
 use Rattle.job.specs.Outcome.{outcome_of}
-use Rattle.job.specs.Admission.{admission_from, admission_of}
-use Rattle.job.specs.declared.Admission.{Admission}
-use Rattle.job.specs.declared.Admission.TheVariants.{Admitted, TurnedAway}
-use Rattle.job.specs.declared.Outcome.TheVariants.{Listed, Refused}
+use Rattle.job.specs.Admission.{Admission, admission_from, admission_of}
 use Rattle.job.proofs.Laws.{both, let_through}
 use Rattle.job.proofs.Cases.{window_parts, table_parts, admit_parts}
 use Rattle.job.proofs.Exactly.{refused-first, first-refused, listed-first}
@@ -32,52 +28,50 @@ use Rattle.job.proofs.Roomy.{roomy_verdict}
 module _ (s : List ℕ) where
   -- ---- the cases of `admit`
 
-  pub not-read : (r : Refusal) → reading_of s ≡ reading.Refused r → TurnedAway r ≡ admission_of s
+  pub not-read : (r : Refusal) → reading_of s ≡ Err r → Err r ≡ admission_of s
   unfolding admission_of admission_from
   not-read r h =
       let gives = (first-exactly (record_rows s) (ordered s) r).1 ((refused-exactly s r).0 h) in
       rw (stops _ _ _ (admit_parts s) r gives)
 
-  pub was_read : (e : Elements) (a : Admission) → reading_of s ≡ reading.Read e → a ≡ admission_from (first (rows_to_question (window_of s) (question_of s))) (window_of s) → a ≡ admission_of s
+  pub was_read : (e : Elements) → reading_of s ≡ Ok e → admission_of s ≡ admission_from (first (rows_to_question (window_of s) (question_of s))) (window_of s)
   unfolding admission_of
-  was_read e a h told =
-      let passed = (passed-exactly (record_rows s)).1 ((read-exactly s e).0 h).0 in
-      told ∙ rw (goes _ _ _ (admit_parts s) passed)
+  was_read e h = rw (goes _ _ _ (admit_parts s) ((passed-exactly (record_rows s)).1 ((read-exactly s e).0 h).0)) refl
 
 -- ---- an admission and the verdict
 
 module _ (w : Window) where
-  pub from-refused : (v : Verdict) (r : Refusal) → v ≡ verdict.Refused r → TurnedAway r ≡ admission_from v w
+  pub from-refused : (v : Verdict) (r : Refusal) → v ≡ Err r → Err r ≡ admission_from v w
   unfolding admission_from
   from-refused v r h = rw h
 
-  pub from-passed : (v : Verdict) → v ≡ verdict.Passed → Admitted w ≡ admission_from v w
+  pub from-passed : (v : Verdict) → v ≡ passed → Ok w ≡ admission_from v w
   unfolding admission_from
   from-passed v h = rw h
 
 -- the window that is let in
 abbrev window_in : Window → Admission → Window
-window_in w (Admitted v) = v
-window_in w (TurnedAway r) = w
+window_in w (Ok v) = v
+window_in w (Err r) = w
 
 -- the refusal, where there is one
 abbrev refusal_in : Refusal → Admission → Refusal
-refusal_in r (Admitted v) = r
-refusal_in r (TurnedAway q) = q
+refusal_in r (Ok v) = r
+refusal_in r (Err q) = q
 
-away-from : (v : Verdict) (w : Window) (r : Refusal) → admission_from v w ≡ TurnedAway r → v ≡ verdict.Refused r
+away-from : (v : Verdict) (w : Window) (r : Refusal) → admission_from v w ≡ Err r → v ≡ Err r
 unfolding admission_from
-away-from verdict.Passed w r h = let z : ◌≡◌ {A = ℕ} 0 1 = cc in absurd (omega arith)
-away-from (verdict.Refused q) w r h = ap (λ (x : Refusal). verdict.Refused x) (ap (refusal_in r) h)
+away-from (Ok t) w r h = let z : ◌≡◌ {A = ℕ} 0 1 = cc in absurd (omega arith)
+away-from (Err q) w r h = ap (λ (x : Refusal). Err x) (ap (refusal_in r) h)
 
-admitted_from : (v : Verdict) (w x : Window) → admission_from v w ≡ Admitted x → (v ≡ verdict.Passed) × (x ≡ w)
+admitted_from : (v : Verdict) (w x : Window) → admission_from v w ≡ Ok x → (v ≡ passed) × (x ≡ w)
 unfolding admission_from
-admitted_from verdict.Passed w x h = (refl, sym (ap (window_in w) h))
-admitted_from (verdict.Refused r) w x h = let z : ◌≡◌ {A = ℕ} 0 1 = cc in absurd (omega arith)
+admitted_from (Ok t) w x h = (refl, sym (ap (window_in w) h))
+admitted_from (Err r) w x h = let z : ◌≡◌ {A = ℕ} 0 1 = cc in absurd (omega arith)
 
 module _ (s : List ℕ) where
   -- a window that is let in is the record's own, and a good one
-  pub admitted_good : {w : Window} → admission_of s ≡ Admitted w → (w ≡ window_of s) × Good w
+  pub admitted_good : {w : Window} → admission_of s ≡ Ok w → (w ≡ window_of s) × Good w
   unfolding admission_of
   admitted_good {w} h =
       let a = admitted_from (first (table_but_room s)) (window_of s) w h in
@@ -85,17 +79,17 @@ module _ (s : List ℕ) where
       (a.1, rw a.1 (let_through (window_of s) (question_of s) rows.1).0)
 
   -- a record whose list is made is let in
-  pub listed_admitted : (room : ℕ) {n k : ℕ} → outcome_of s room ≡ Listed n k → admission_of s ≡ Admitted (window_of s)
+  pub listed_admitted : (room : ℕ) {found : Found} → outcome_of s room ≡ Ok found → admission_of s ≡ Ok (window_of s)
   unfolding admission_of admission_from ◌then◌
-  listed_admitted room {n} {k} h =
+  listed_admitted room h =
       let w = window_of s in
       let q = question_of s in
-      let parts = both (first (record_rows s)) (first (rows_from_window w q room)) (sym (table_parts s room) ∙ listed-first s room n k h) in
+      let parts = both (first (record_rows s)) (first (rows_from_window w q room)) (sym (table_parts s room) ∙ listed-first s room h) in
       let rows = both (first (rows_to_question w q)) (room_row w room) (sym (window_parts w q room) ∙ parts.1) in
       rw (admit_parts s, parts.0, rows.0) refl
 
   -- a record is turned away exactly as its job is refused with room for any list
-  pub away-exactly : (r : Refusal) → (admission_of s ≡ TurnedAway r) ↔ (outcome_of s room_for_any ≡ Refused r)
+  pub away-exactly : (r : Refusal) → (admission_of s ≡ Err r) ↔ (outcome_of s room_for_any ≡ Err r)
   unfolding admission_of
   away-exactly r =
       let any = roomy_verdict s room_for_any (le_refl room_for_any) in (

@@ -1,18 +1,16 @@
 -- The job's cases, each from what its parts answered: a refusal stops, and a pass hands on to the rows behind it.
 use Prim.Native.Nat.{ℕ}
-use mathlib.Core.Path.{◌≡◌, refl}
+use mathlib.Core.Path.{◌≡◌, refl, ◌∙◌}
 use mathlib.Core.Bool.{Bool}
 use mathlib.Core.List.{List}
 use lib.ListN.{length}
 use lib.Seq.{sets}
-use Rattle.refusal.specs.Rows.{◌then◌, first}
+use Rattle.std.specs.Prelude.{Ok, Err}
+use Rattle.refusal.specs.Rows.{Verdict, passed, ◌then◌, first}
 use Rattle.refusal.specs.declared.Refusal.{Refusal}
-use Rattle.refusal.specs.declared.Verdict.{Verdict}
-use Rattle.refusal.specs.declared.Verdict.TheVariants as verdict
 use Rattle.refusal.proofs.Order.{first-append, first-last, stops, goes, first-exactly, passed-exactly}
 use Rattle.elements.specs.Reading.{record_rows, reading_of}
 use Rattle.elements.specs.declared.reading.Elements.{Elements}
-use Rattle.elements.specs.declared.reading.Reading.TheVariants as reading
 use Rattle.elements.proofs.Rows.{ordered}
 use Rattle.elements.proofs.Exactly.{read-exactly, refused-exactly}
 use Rattle.geometry.specs.declared.Sight.{Sight}
@@ -21,9 +19,7 @@ use Rattle.finder.specs.declared.Found.{Found}
 use Rattle.finder.specs.Spans.{list_of}
 use Rattle.finder.specs.Records.{records_of, found_of}
 use Rattle.job.specs.Table.{window_of, question_of, room_row, rows_to_question, rows_from_window, table_of, table_but_room}
-use Rattle.job.specs.Outcome.{answers_of, sights_of, answers_in, sights_in, outcome_from, records_from, outcome_of, records_in, list_after_of}
-use Rattle.job.specs.declared.Outcome.{Outcome}
-use Rattle.job.specs.declared.Outcome.TheVariants.{Listed, Refused}
+use Rattle.job.specs.Outcome.{Outcome, answers_of, sights_of, answers_in, sights_in, outcome_from, records_from, outcome_of, records_in, list_after_of}
 
 -- ---- by a verdict
 
@@ -32,11 +28,11 @@ module _ (f : ℕ → Bool) (g : ℕ → Sight) (w : Window) (old : List ℕ) wh
   abbrev pub Answers : Verdict → Outcome → List ℕ → Type 0
   Answers v r new = (r ≡ outcome_from v f w) × (new ≡ sets old 0 (records_from v f g w))
 
-  pub refused : (v : Verdict) (r : Refusal) → v ≡ verdict.Refused r → Answers v (Refused r) old
+  pub refused : (v : Verdict) (r : Refusal) → v ≡ Err r → Answers v (Err r) old
   unfolding outcome_from records_from
   refused v r h = rw h (refl, refl)
 
-  pub listed : (v : Verdict) (n : Found) (new : List ℕ) → v ≡ verdict.Passed → n ≡ found_of f w → new ≡ sets old 0 (records_of g w (list_of f w)) → Answers v (Listed n.intervals n.asked) new
+  pub listed : (v : Verdict) (n : Found) (new : List ℕ) → v ≡ passed → n ≡ found_of f w → new ≡ sets old 0 (records_of g w (list_of f w)) → Answers v (Ok n) new
   unfolding outcome_from records_from
   listed v n new h a b = rw (h, a) (refl, b)
 
@@ -62,16 +58,28 @@ module _ (s old : List ℕ) where
   abbrev Meets : Outcome → List ℕ → Type 0
   Meets r new = (r ≡ outcome_of s (length old)) × (new ≡ list_after_of s old)
 
-  pub unread : (r : Refusal) → reading_of s ≡ reading.Refused r → Meets (Refused r) old
+  pub unread : (r : Refusal) → reading_of s ≡ Err r → Meets (Err r) old
   unfolding outcome_of list_after_of records_in
   unread r h =
       let gives = (first-exactly (record_rows s) (ordered s) r).1 ((refused-exactly s r).0 h) in
       refused (answers_in s) (sights_in s) (window_of s) old (first (table_of s (length old))) r (stops _ _ _ (table_parts s (length old)) r gives)
 
-  pub was_read : (e : Elements) (r : Outcome) (new : List ℕ) → reading_of s ≡ reading.Read e
-      → Answers (answers_of e (question_of s)) (sights_of e (question_of s)) (window_of s) old (first (rows_from_window (window_of s) (question_of s) (length old))) r new → Meets r new
-  unfolding outcome_of list_after_of records_in
-  was_read e r new h a =
-      let p = (read-exactly s e).0 h in
-      let passed = (passed-exactly (record_rows s)).1 p.0 in
-      rw (goes _ _ _ (table_parts s (length old)) passed) (rw p.1 at a)
+  abbrev w : Window
+  w = window_of s
+
+  abbrev q : ℕ
+  q = question_of s
+
+  module _ (e : Elements) (h : reading_of s ≡ Ok e) where
+    -- then rows 6 to 9 decide
+    from_window : first (table_of s (length old)) ≡ (first (rows_to_question w q) then room_row w (length old))
+    from_window = goes _ _ _ (table_parts s (length old)) ((passed-exactly (record_rows s)).1 ((read-exactly s e).0 h).0) ∙ window_parts w q (length old)
+
+    pub turned_away : (r : Refusal) → first (rows_to_question w q) ≡ Err r → Meets (Err r) old
+    unfolding outcome_of list_after_of records_in
+    turned_away r v = refused (answers_in s) (sights_in s) w old (first (table_of s (length old))) r (stops _ _ _ from_window r v)
+
+    pub let_in : (r : Outcome) (new : List ℕ) → first (rows_to_question w q) ≡ passed
+        → Answers (answers_of e q) (sights_of e q) w old (room_row w (length old)) r new → Meets r new
+    unfolding outcome_of list_after_of records_in
+    let_in r new v a = rw (goes _ _ _ from_window v) (rw ((read-exactly s e).0 h).1 at a)

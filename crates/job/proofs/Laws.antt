@@ -7,13 +7,11 @@ use mathlib.Core.List.{[], ◌∷◌}
 use native.Mathlib.Omega.{arith}
 use native.Mathlib.Nat.{le-div_iff_mul-le, div-lt_iff_lt-mul, suc-mul}
 use borrow.Author.Tests.{ltb-true, ltb-false, leb-false, eqb-true, eqb-false, lt-ltb, le-ltb}
-use lib.Dec.{eqb, ltb, leb, lit≤}
-use Rattle.refusal.specs.Rows.{◌then◌, first, row_at}
+use lib.Dec.{eqb, ltb, leb}
+use Rattle.refusal.specs.Rows.{Verdict, passed, ◌then◌, first, row_at}
 use Rattle.refusal.specs.Refusal.{number_of, field_of, zero, value_of, bits_of}
 use Rattle.refusal.specs.declared.Refusal.{Refusal}
 use Rattle.refusal.specs.declared.Refusal.TheVariants as refusal
-use Rattle.refusal.specs.declared.Verdict.{Verdict}
-use Rattle.refusal.specs.declared.Verdict.TheVariants.{Passed}
 use Rattle.refusal.proofs.Order.{then-passed, when-passed, passed-exactly}
 use Rattle.finder.specs.declared.Window.{Window}
 use Rattle.finder.specs.Samples.{last_end, longest_step, most_steps, Good, steps_of}
@@ -25,7 +23,7 @@ neither true b h = (h, absurd (true≢false h))
 neither false b h = (refl, h)
 
 -- two rows that pass together pass each
-pub both : (a b : Verdict) → (a then b) ≡ Passed → (a ≡ Passed) × (b ≡ Passed)
+pub both : (a b : Verdict) → (a then b) ≡ passed → (a ≡ passed) × (b ≡ passed)
 unfolding first row_at
 both a b h = let p = (passed-exactly (a ∷ b ∷ [])).0 (ap (λ (v : Verdict). a then v) (then-passed b) ∙ h) in (p 0, p 1)
 
@@ -41,8 +39,8 @@ module _ (w : Window) (m : ℕ) (some : 1 ≤ w.step) where
   unfolding steps_of
   few h = (div-lt_iff_lt-mul some).1 (rw (suc-mul m w.step) (omega arith))
 
-  pub more-steps : ltb (m * w.step) (w.t1 - w.t0) ≡ ltb m (steps_of w)
-  more-steps = by (ltb (m * w.step) (w.t1 - w.t0)) refl
+  pub more_steps : ltb (m * w.step) (w.t1 - w.t0) ≡ ltb m (steps_of w)
+  more_steps = by (ltb (m * w.step) (w.t1 - w.t0)) refl
     where
       by : (t : Bool) → ltb (m * w.step) (w.t1 - w.t0) ≡ t → t ≡ ltb m (steps_of w)
       by true e = sym (lt-ltb m (steps_of w) (many (ltb-true _ _ e)))
@@ -55,7 +53,7 @@ room-is w = omega arith
 
 -- ---- 6 and 7
 
-module _ (w : Window) (h6 : window_row w ≡ Passed) (h7 : step_row w ≡ Passed) where
+module _ (w : Window) (h6 : window_row w ≡ passed) (h7 : step_row w ≡ passed) where
   step_tests : ((eqb w.step 0 || ltb longest_step w.step) ≡ false) × (ltb most_steps (steps_of w) ≡ false)
   unfolding bad_step
   step_tests = neither (eqb w.step 0 || ltb longest_step w.step) (ltb most_steps (steps_of w)) (when-passed (bad_step w) refusal.Step h7)
@@ -79,13 +77,13 @@ module _ (w : Window) (h6 : window_row w ≡ Passed) (h7 : step_row w ≡ Passed
 -- ---- 6 to 8 together
 
 -- leave a good window of at most 4,096 steps
-pub let_through : (w : Window) (q : ℕ) → first (rows_to_question w q) ≡ Passed → Good w × (steps_of w ≤ most_steps)
+pub let_through : (w : Window) (q : ℕ) → first (rows_to_question w q) ≡ passed → Good w × (steps_of w ≤ most_steps)
 unfolding row_at
 let_through w q h = let p = (passed-exactly (rows_to_question w q)).0 h in (good w (p 0) (p 1), few-steps w (p 0) (p 1))
 
 -- ---- 8 and 9
 
-pub one-or_two : (q : ℕ) → question_row q ≡ Passed → (q ≡ 1) ⊎ (q ≡ 2)
+pub one-or_two : (q : ℕ) → question_row q ≡ passed → (q ≡ 1) ⊎ (q ≡ 2)
 unfolding bad_question
 one-or_two q h = by (eqb q 1) (eqb q 2) refl refl (when-passed (bad_question q) refusal.Question h)
   where
@@ -94,22 +92,11 @@ one-or_two q h = by (eqb q 1) (eqb q 2) refl refl (when-passed (bad_question q) 
     by false true x y n = inr (eqb-true q 2 y)
     by false false x y n = absurd (true≢false n)
 
-pub roomy : (w : Window) (room : ℕ) → room_row w room ≡ Passed → room_of w ≤ room
+pub roomy : (w : Window) (room : ℕ) → room_row w room ≡ passed → room_of w ≤ room
 unfolding no_room_of
 roomy w room h = ltb-false room (room_of w) (when-passed (no_room_of w room) refusal.Room h)
 
 -- ---- numbers
-
-pub number-most : (r : Refusal) → number_of r ≤ 9
-number-most refusal.Length = lit≤ tt
-number-most refusal.Word = lit≤ tt
-number-most (refusal.NotFinite k x b) = lit≤ tt
-number-most (refusal.OutOfRange k x) = lit≤ tt
-number-most (refusal.TooClose d) = lit≤ tt
-number-most refusal.Window = lit≤ tt
-number-most refusal.Step = lit≤ tt
-number-most refusal.Question = lit≤ tt
-number-most refusal.Room = lit≤ tt
 
 -- of the refusals 1, 2 and 6 to 9 the table says: field 0, number 0.0
 pub else_returns : (r : Refusal) → (number_of r ≡ 3 → ⊥) → (number_of r ≡ 4 → ⊥) → (number_of r ≡ 5 → ⊥) → (field_of r ≡ 0) × (value_of r ≡ zero) × (bits_of r ≡ 0)

@@ -9,9 +9,8 @@ use borrow.Author.Tests.{leb-true, le-leb, lt-leb}
 use lib.Dec.{leb}
 use lib.ListN.{length, take, drop, length-append}
 use lib.Seq.{sets, length-sets, length-take-le}
-use Rattle.refusal.specs.Rows.{first, row_at}
-use Rattle.refusal.specs.declared.Verdict.{Verdict}
-use Rattle.refusal.specs.declared.Verdict.TheVariants as verdict
+use Rattle.std.specs.Prelude.{Ok, Err}
+use Rattle.refusal.specs.Rows.{Verdict, passed, first, row_at}
 use Rattle.refusal.proofs.Order.{passed-exactly}
 use Rattle.elements.specs.Reading.{field_rows}
 use Rattle.interval.specs.declared.Interval.{Interval}
@@ -25,9 +24,8 @@ use Rattle.finder.specs.Records.{found_of, room_of}
 use Rattle.finder.proofs.Records.{length-records}
 use Rattle.finder.proofs.Counts.{list-most}
 use Rattle.job.specs.Table.{window_of, table_of}
-use Rattle.job.specs.Outcome.{intervals_of, answers_in, sights_in, outcome_from, records_from, outcome_of, records_in, list_after_of}
+use Rattle.job.specs.Outcome.{Outcome, intervals_of, answers_in, sights_in, outcome_from, records_from, outcome_of, records_in, list_after_of}
 use Rattle.job.specs.Reply.{job_of, closing_of, reply_of}
-use Rattle.job.specs.declared.Outcome.{Outcome}
 use Rattle.job.proofs.Laws.{roomy}
 
 -- ---- the interval records
@@ -35,18 +33,18 @@ use Rattle.job.proofs.Laws.{roomy}
 -- 24 bytes for each interval
 length_from : (v : Verdict) (f : ℕ → Bool) (g : ℕ → Sight) (w : Window) → length (records_from v f g w) ≡ 24 * intervals_of (outcome_from v f w)
 unfolding records_from outcome_from found_of
-length_from verdict.Passed f g w = length-records g w (list_of f w)
-length_from (verdict.Refused r) f g w = refl
+length_from (Ok t) f g w = length-records g w (list_of f w)
+length_from (Err r) f g w = refl
 
-fits-from : (v : Verdict) (f : ℕ → Bool) (g : ℕ → Sight) (w : Window) (room : ℕ) → (v ≡ verdict.Passed → room_of w ≤ room) → length (records_from v f g w) ≤ room
+fits-from : (v : Verdict) (f : ℕ → Bool) (g : ℕ → Sight) (w : Window) (room : ℕ) → (v ≡ passed → room_of w ≤ room) → length (records_from v f g w) ≤ room
 unfolding records_from room_of
-fits-from verdict.Passed f g w room h =
+fits-from (Ok t) f g w room h =
     let l = list_of f w in
     omega (arith, length-records g w l, list-most f w, h refl)
-fits-from (verdict.Refused r) f g w room h = omega arith
+fits-from (Err r) f g w room h = omega arith
 
 module _ (s : List ℕ) (room : ℕ) where
-  table-roomy : first (table_of s room) ≡ verdict.Passed → room_of (window_of s) ≤ room
+  table-roomy : first (table_of s room) ≡ passed → room_of (window_of s) ≤ room
   unfolding table_of field_rows row_at
   table-roomy h = roomy (window_of s) room ((passed-exactly (table_of s room)).0 h 19)
 

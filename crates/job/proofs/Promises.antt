@@ -24,15 +24,15 @@ use lib.ListN.{length, get_or, take, drop}
 use lib.Ieee.{Float}
 use lib.Ieee.Positive.{positive}
 use lib.Ieee.Scale.{finite}
+use Rattle.std.specs.Prelude.{Ok, Err, Some}
 use Rattle.words.specs.Little.{Bytes}
 use Rattle.halving.specs.Halving.{Alike}
 use Rattle.kepler.specs.Kepler.{search_of}
 use Rattle.kepler.proofs.Laws as kepler
 use Rattle.refusal.specs.Refusal.{number_of, field_of, zero, value_of, bits_of, order_of}
-use Rattle.refusal.specs.Rows.{row_at, Gives, Passes}
+use Rattle.refusal.specs.Rows.{passed, row_at, Gives, Passes}
 use Rattle.refusal.specs.declared.Refusal.{Refusal}
 use Rattle.refusal.specs.declared.Refusal.TheVariants as refusal
-use Rattle.refusal.specs.declared.Verdict.TheVariants.{Passed}
 use Rattle.elements.specs.Field.{bits_in, float_of}
 use Rattle.elements.specs.Closest.{closest_of}
 use Rattle.elements.specs.Reading.{elements_of, Returns}
@@ -47,7 +47,7 @@ use Rattle.geometry.specs.Elsewhere.{seen_from, turned_by}
 use Rattle.geometry.proofs.Told as told-by
 use Rattle.geometry.proofs.Elsewhere as elsewhere
 use Rattle.interval.specs.Record.{record_bytes, parsed_of}
-use Rattle.interval.specs.declared.Parsed.TheVariants.{Record}
+use Rattle.finder.specs.declared.Found.{Found}
 use Rattle.finder.specs.declared.Window.{Window}
 use Rattle.finder.specs.Samples.{most_steps, Good, steps_of, sample_at, samples}
 use Rattle.finder.specs.Spans.{Span, span, list_of}
@@ -63,9 +63,7 @@ use Rattle.finder.proofs.Asked.{list-alike}
 use Rattle.finder.proofs.Neighbours.{list-asked, records-alike}
 use Rattle.finder.proofs.Reasons.{Tells, first-why, last-why}
 use Rattle.job.specs.Table.{window_of, question_of, table_of}
-use Rattle.job.specs.Outcome.{intervals_of, asked_of, orbit_with, answers_in, sights_in, outcome_of, list_after_of}
-use Rattle.job.specs.declared.Outcome.{Outcome}
-use Rattle.job.specs.declared.Outcome.TheVariants.{Listed, Refused}
+use Rattle.job.specs.Outcome.{Outcome, intervals_of, asked_of, orbit_with, answers_in, sights_in, outcome_of, list_after_of}
 use Rattle.job.proofs.Exactly as exactly
 use Rattle.job.proofs.Roomy as roomy
 use Rattle.job.proofs.Laws.{else_returns}
@@ -103,7 +101,7 @@ module _ {s old : List ℕ} {o : Outcome} {new : List ℕ} (job : Job s old o ne
   told : {p : Outcome} → o ≡ p → outcome_of s (length old) ≡ p
   told h = sym job.answer ∙ h
 
-  good : {n k : ℕ} → o ≡ Listed n k → Good (window_of s)
+  good : {found : Found} → o ≡ Ok found → Good (window_of s)
   good h = exactly.listed-good s (length old) (told h)
 
 -- In what follows, of one job: its room in bytes, its window and step, what is fixed of its orbit, the yes or no at each instant, what tells why there, and the list of intervals.
@@ -129,55 +127,55 @@ module _ (s old : List ℕ) (o : Outcome) (new : List ℕ) (job : Job s old o ne
   -- ---- 1. Any bytes, any window, step and room: a list, or one of the refusals
 
   -- a refusal is given exactly if its row of the table applies and none before it does
-  pub refused-exactly : (r : Refusal) → (o ≡ Refused r) ↔ Gives (table_of s room) (order_of r) r
+  pub refused-exactly : (r : Refusal) → (o ≡ Err r) ↔ Gives (table_of s room) (order_of r) r
   refused-exactly r = rw job.answer (exactly.refused-exactly s room r)
 
   -- a list exactly if every row passes, and then with these numbers
-  pub listed-exactly : (o ≡ Listed (length l) (length (instants_of f w))) ↔ Passes (table_of s room)
+  pub listed-exactly : (o ≡ Ok (record { intervals = length l; asked = length (instants_of f w) })) ↔ Passes (table_of s room)
   unfolding found_of
   listed-exactly = rw job.answer (exactly.listed-exactly s room)
 
   -- and nothing else is answered
-  pub list-or_refusal : (o ≡ Listed (length l) (length (instants_of f w))) ⊎ ((r : Refusal) × (o ≡ Refused r))
+  pub list-or_refusal : (o ≡ Ok (record { intervals = length l; asked = length (instants_of f w) })) ⊎ ((r : Refusal) × (o ≡ Err r))
   unfolding found_of
   list-or_refusal = rw job.answer (exactly.list-or_refusal s room)
 
   -- refusal 9 is never given where there is room for 2,049 intervals
-  pub room_never : room_for_any ≤ room → o ≡ Refused refusal.Room → ⊥
+  pub room_never : room_for_any ≤ room → o ≡ Err refusal.Room → ⊥
   room_never enough h = roomy.room_never s room enough (told job h)
 
   -- NaN and infinity are refused by field: the first field k that is one
-  pub not_finite_refused : (k : ℕ) → 1 ≤ k → k ≤ 13 → ((j : ℕ) → j < 1 + k → row_at (table_of s room) j ≡ Passed)
-      → finite (float_of s k) ≡ false → o ≡ Refused (refusal.NotFinite k (float_of s k) (bits_in s k))
+  pub not_finite_refused : (k : ℕ) → 1 ≤ k → k ≤ 13 → ((j : ℕ) → j < 1 + k → row_at (table_of s room) j ≡ passed)
+      → finite (float_of s k) ≡ false → o ≡ Err (refusal.NotFinite k (float_of s k) (bits_in s k))
   not_finite_refused k least most before h = job.answer ∙ exactly.not_finite_refused s room k least most before h
 
   -- and so are values out of range: the first field k that is finite and whose row does not pass
-  pub out_of_range_refused : (k : ℕ) → 1 ≤ k → k ≤ 13 → ((j : ℕ) → j < 1 + k → row_at (table_of s room) j ≡ Passed)
-      → finite (float_of s k) ≡ true → (row_at (table_of s room) (1 + k) ≡ Passed → ⊥) → o ≡ Refused (refusal.OutOfRange k (float_of s k))
+  pub out_of_range_refused : (k : ℕ) → 1 ≤ k → k ≤ 13 → ((j : ℕ) → j < 1 + k → row_at (table_of s room) j ≡ passed)
+      → finite (float_of s k) ≡ true → (row_at (table_of s room) (1 + k) ≡ passed → ⊥) → o ≡ Err (refusal.OutOfRange k (float_of s k))
   out_of_range_refused k least most before h out = job.answer ∙ exactly.out_of_range_refused s room k least most before h out
 
   -- none gets through: what is listed has every field in its range, and the closest distance above R
-  pub listed-accepted : {n k : ℕ} → o ≡ Listed n k → Accepted (elements_of s)
+  pub listed-accepted : {found : Found} → o ≡ Ok found → Accepted (elements_of s)
   listed-accepted h = exactly.listed-accepted s room (told job h)
 
   -- a refusal of a field returns that field's own number, bit for bit. `Bytes s` says that each element of s is below 256, as every u8 is
-  pub refused_returns : (r : Refusal) → o ≡ Refused r → Bytes s → Returns s r
+  pub refused_returns : (r : Refusal) → o ≡ Err r → Bytes s → Returns s r
   refused_returns r h b = exactly.refused_returns s room r b (told job h)
 
   -- refusal 5 returns the closest distance, a finite number above 0
-  pub refused_distance : (d : Float) → o ≡ Refused (refusal.TooClose d) → (d ≡ closest_of (float_of s 1) (float_of s 2)) × T (positive d)
+  pub refused_distance : (d : Float) → o ≡ Err (refusal.TooClose d) → (d ≡ closest_of (float_of s 1) (float_of s 2)) × T (positive d)
   refused_distance d h = exactly.refused_distance s room d (told job h)
 
   -- every other refusal returns field 0, number 0.0
-  pub refused_else : (r : Refusal) → o ≡ Refused r → (number_of r ≡ 3 → ⊥) → (number_of r ≡ 4 → ⊥) → (number_of r ≡ 5 → ⊥) → (field_of r ≡ 0) × (value_of r ≡ zero) × (bits_of r ≡ 0)
+  pub refused_else : (r : Refusal) → o ≡ Err r → (number_of r ≡ 3 → ⊥) → (number_of r ≡ 4 → ⊥) → (number_of r ≡ 5 → ⊥) → (field_of r ≡ 0) × (value_of r ≡ zero) × (bits_of r ≡ 0)
   refused_else r h = else_returns r
 
   -- each returns 0 intervals and 0 instants asked
-  pub refused-counts : (r : Refusal) → o ≡ Refused r → (intervals_of o ≡ 0) × (asked_of o ≡ 0)
+  pub refused-counts : (r : Refusal) → o ≡ Err r → (intervals_of o ≡ 0) × (asked_of o ≡ 0)
   refused-counts r h = rw h (refl, refl)
 
   -- and the lent list keeps every byte
-  pub refused-keeps : (r : Refusal) → o ≡ Refused r → new ≡ old
+  pub refused-keeps : (r : Refusal) → o ≡ Err r → new ≡ old
   refused-keeps r h = job.bytes ∙ exactly.refused-keeps s old r (told job h)
 
   -- ---- 2. The answer at each instant is the rules', and the list is the one that the rules and the halving give
@@ -224,7 +222,13 @@ module _ (s old : List ℕ) (o : Outcome) (new : List ℕ) (job : Job s old o ne
   turned-is = elsewhere.turned_τ orbit
 
   -- n intervals were listed, and k instants asked
-  module _ {n k : ℕ} (h : o ≡ Listed n k) where
+  module _ {found : Found} (h : o ≡ Ok found) where
+    abbrev n : ℕ
+    n = found.intervals
+
+    abbrev k : ℕ
+    k = found.asked
+
     -- the question was one of these two
     pub listed-question : (question_of s ≡ 1) ⊎ (question_of s ≡ 2)
     listed-question = exactly.listed-question s room (told job h)
@@ -243,7 +247,7 @@ module _ (s old : List ℕ) (o : Outcome) (new : List ℕ) (job : Job s old o ne
     record-bytes i below = ap (λ (x : List ℕ). take 24 (drop (24 * i) x)) job.bytes ∙ written.record-bytes s old (told job h) i below
 
     -- and reads as interval i
-    pub reads_as : Bytes s → (i : ℕ) → i < n → parsed_of (take 24 (drop (24 * i) new)) ≡ Record (interval_of g w (get_or l i (span 0 0)))
+    pub reads_as : Bytes s → (i : ℕ) → i < n → parsed_of (take 24 (drop (24 * i) new)) ≡ Some (interval_of g w (get_or l i (span 0 0)))
     reads_as b i below = ap (λ (x : List ℕ). parsed_of (take 24 (drop (24 * i) x))) job.bytes ∙ written.record_is s old (told job h) i below b
 
     -- each of its six flags is set exactly where it is to be

@@ -6,10 +6,9 @@ use mathlib.Core.List.{List}
 use native.Mathlib.Omega.{arith}
 use borrow.Author.Tests.{le-ltb, le-leb}
 use lib.Dec.{lit<}
-use Rattle.refusal.specs.Rows.{when, ◌then◌, first, row_at}
+use Rattle.std.specs.Prelude.{Ok, Err}
+use Rattle.refusal.specs.Rows.{Verdict, passed, when, ◌then◌, first, row_at}
 use Rattle.refusal.specs.declared.Refusal.TheVariants as refusal
-use Rattle.refusal.specs.declared.Verdict.{Verdict}
-use Rattle.refusal.specs.declared.Verdict.TheVariants as verdict
 use Rattle.refusal.proofs.Order.{not-both}
 use Rattle.elements.specs.Reading.{field_rows, record_rows}
 use Rattle.finder.specs.declared.Window.{Window}
@@ -18,18 +17,17 @@ use Rattle.finder.specs.Records.{room_of, room_for_any}
 use Rattle.job.specs.Table.{window_of, question_of, no_room_of, room_row, rows_to_question, rows_from_window, table_of, table_but_room}
 use Rattle.job.specs.Outcome.{answers_in, sights_in, outcome_from, records_from, outcome_of, records_in}
 use Rattle.job.specs.Reply.{room_for_reply, reply_of}
-use Rattle.job.specs.declared.Outcome.TheVariants.{Refused}
 use Rattle.job.proofs.Laws.{few-steps, let_through}
 use Rattle.job.proofs.Exactly.{refused-exactly}
 use Rattle.job.proofs.Cases.{window_parts, table_parts, admit_parts}
 
 -- a window of at most 4,096 steps has room
-row-passes : (w : Window) (room : ℕ) → steps_of w ≤ most_steps → room_for_any ≤ room → room_row w room ≡ verdict.Passed
+row-passes : (w : Window) (room : ℕ) → steps_of w ≤ most_steps → room_for_any ≤ room → room_row w room ≡ passed
 unfolding no_room_of room_of
 row-passes w room few enough = ap (λ (t : Bool). when t refusal.Room) (le-ltb room (room_of w) (omega arith))
 
 -- so with so much room no job is refused for it
-pub room_never : (s : List ℕ) (room : ℕ) → room_for_any ≤ room → outcome_of s room ≡ Refused refusal.Room → ⊥
+pub room_never : (s : List ℕ) (room : ℕ) → room_for_any ≤ room → outcome_of s room ≡ Err refusal.Room → ⊥
 unfolding table_of field_rows row_at
 room_never s room enough h =
     let gives = (refused-exactly s room refusal.Room).0 h in
@@ -42,8 +40,8 @@ unfolding ◌then◌
 any_room w q room enough = window_parts w q room ∙ by (first (rows_to_question w q)) refl
   where
     by : (v : Verdict) → first (rows_to_question w q) ≡ v → (v then room_row w room) ≡ v
-    by verdict.Passed h = row-passes w room (let_through w q h).1 enough
-    by (verdict.Refused r) h = refl
+    by (Ok t) h = row-passes w room (let_through w q h).1 enough
+    by (Err r) h = refl
 
 -- and the table says the same as without row 9
 pub roomy_verdict : (s : List ℕ) (room : ℕ) → room_for_any ≤ room → first (table_of s room) ≡ first (table_but_room s)

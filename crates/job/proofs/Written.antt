@@ -6,13 +6,14 @@ use native.Mathlib.Omega.{arith}
 use native.Mathlib.Nat.{zero-add}
 use lib.ListN.{length, get_or, take, drop, length-drop}
 use lib.Seq.{sets-eq, take-append-le, drop-append-le}
+use Rattle.std.specs.Prelude.{Ok, Some}
 use Rattle.words.specs.Little.{Bytes}
 use Rattle.words.proofs.Laws.{read-lt}
 use Rattle.interval.specs.declared.Interval.{Interval}
 use Rattle.interval.specs.Record.{record_bytes, parsed_of, Sized}
-use Rattle.interval.specs.declared.Parsed.TheVariants.{Record}
 use Rattle.interval.proofs.Laws.{reads, read_back, length-record}
 use Rattle.elements.specs.Reading.{WholeRecord}
+use Rattle.finder.specs.declared.Found.{Found}
 use Rattle.finder.specs.Spans.{Span, span, list_of}
 use Rattle.finder.specs.Records.{interval_of, records_of, found_of, room_of}
 use Rattle.finder.proofs.Counts.{list-most}
@@ -21,14 +22,16 @@ use Rattle.finder.proofs.Records.{length-records, record-at, in_order_at}
 use Rattle.finder.proofs.Listed.{list_in_order}
 use Rattle.job.specs.Table.{window_of}
 use Rattle.job.specs.Outcome.{answers_in, sights_in, outcome_of, list_after_of}
-use Rattle.job.specs.declared.Outcome.TheVariants.{Listed}
 use Rattle.job.proofs.Exactly.{listed-whole, listed-good, listed-roomy, listed-intervals, listed-bytes}
 
 -- a record's bytes read as that record
-parsed : (r : Interval) → Sized r → parsed_of (record_bytes r) ≡ Record r
-parsed r z = reads (record_bytes r) (length-record r) ∙ ap (λ (x : Interval). Record x) (read_back r z)
+parsed : (r : Interval) → Sized r → parsed_of (record_bytes r) ≡ Some r
+parsed r z = reads (record_bytes r) (length-record r) ∙ ap (λ (x : Interval). Some x) (read_back r z)
 
-module _ (s old : List ℕ) {n k : ℕ} (h : outcome_of s (length old) ≡ Listed n k) where
+module _ (s old : List ℕ) {found : Found} (h : outcome_of s (length old) ≡ Ok found) where
+  abbrev n : ℕ
+  n = found.intervals
+
   abbrev l : List Span
   l = list_of (answers_in s) (window_of s)
 
@@ -84,5 +87,5 @@ module _ (s old : List ℕ) {n k : ℕ} (h : outcome_of s (length old) ≡ Liste
         ∙ record-at (sights_in s) (window_of s) l i inside
 
     -- so it reads as that interval
-    pub record_is : Bytes s → parsed_of (take 24 (drop (24 * i) (list_after_of s old))) ≡ Record (interval_of (sights_in s) (window_of s) one)
+    pub record_is : Bytes s → parsed_of (take 24 (drop (24 * i) (list_after_of s old))) ≡ Some (interval_of (sights_in s) (window_of s) one)
     record_is b = ap parsed_of record-bytes ∙ parsed (interval_of (sights_in s) (window_of s) one) (sized b)

@@ -7,7 +7,7 @@ ghost use Rattle.refusal.specs.Rows.{first};
 ghost use Rattle.elements.specs.Accepted.{Accepted};
 ghost use Rattle.elements.specs.Reading.{WholeRecord};
 ghost use Rattle.finder.specs.Samples.{Good};
-ghost use Rattle.job.specs.Table.{window_of, question_of, bad_window, bad_step, bad_question, no_room_of, room_row, rows_to_question, rows_from_window};
+ghost use Rattle.job.specs.Table.{window_of, question_of, bad_window, bad_step, bad_question, no_room_of, room_row, rows_to_question};
 ghost use Rattle.job.specs.Outcome.{outcome_by, records_by, outcome_of, list_after_of};
 ghost use Rattle.job.specs.Reply.{job_of, closing_of, reply_of};
 ghost use Rattle.job.specs.Admission.{admission_of};
@@ -37,6 +37,7 @@ fn question(s: &[u8]) -> u32
 }
 
 // A record's job number, window and step.
+#[tactic(auto, unfolding(crate::specs::Table::window_of))]
 fn window(s: &[u8]) -> Window
     requires { WholeRecord s.now }
     ensures { result ≡ window_of s.now }
@@ -52,6 +53,7 @@ fn window(s: &[u8]) -> Window
 // ---- refusals 6 to 8
 
 // t0 ≥ t1, or t1 past the last end of a window.
+#[tactic(auto, unfolding(crate::specs::Table::bad_window))]
 fn bad_window(w: Window) -> bool
     ensures { result ≡ bad_window w }
 {
@@ -59,22 +61,15 @@ fn bad_window(w: Window) -> bool
 }
 
 // A step of 0, too long a step, or more than 4,096 of them. No division, so that a step of 0 does no harm.
+#[tactic(auto, using(crate::proofs::Laws::more_steps), unfolding(crate::specs::Table::bad_step))]
 fn bad_step(w: Window) -> bool
     ensures { result ≡ bad_step w }
 {
-    if w.step == 0 {
-        return true;
-    }
-    if LONGEST_STEP < w.step {
-        return true;
-    }
-    if w.t1 <= w.t0 {
-        return false;
-    }
-    MOST_STEPS * w.step < w.t1 - w.t0
+    w.step == 0 || LONGEST_STEP < w.step || MOST_STEPS * w.step < w.t1.saturating_sub(w.t0)
 }
 
 // Neither 1 nor 2.
+#[tactic(auto, unfolding(crate::specs::Table::bad_question))]
 fn bad_question(question: u32) -> bool
     ensures { result ≡ bad_question question }
 {
@@ -100,7 +95,8 @@ fn no_room(w: Window, room: usize) -> bool
     (room as u64) < 24 * ((finder::steps(w) + 2) / 2)
 }
 
-// Row 9, and then the list. The sine table is made here, once, and lent to all that reads it; so a refused job makes none.
+// Row 9, and then the list. Room is asked behind the others, since only of a good window can the steps be counted. The sine table is made
+// here, once, and lent to all that reads it; so a refused job makes none.
 fn from_room(e: Elements, question: u32, w: Window, list: &mut [u8]) -> Result<Found, Refusal>
     requires { (Accepted e) × (Good w) }
     ensures value { result ≡ outcome_by (room_row w (length list.old)) e question w }
@@ -114,23 +110,16 @@ fn from_room(e: Elements, question: u32, w: Window, list: &mut [u8]) -> Result<F
 
 // ---- the job
 
-// Rows 6 to 9, and then the list. Room is asked behind the others, since only of a good window can the steps be counted.
-fn from_window(e: Elements, question: u32, w: Window, list: &mut [u8]) -> Result<Found, Refusal>
-    requires { Accepted e }
-    ensures value { result ≡ outcome_by (first (rows_from_window w question (length list.old))) e question w }
-    ensures list_after { list.new ≡ sets list.old 0 (records_by (first (rows_from_window w question (length list.old))) e question w) }
-{
-    window_to_question(w, question)?;
-    from_room(e, question, w, list)
-}
-
 // One job: its intervals in `list` from byte 0, or the first refusal that applies and `list` as it was.
 pub fn list(s: &[u8], list: &mut [u8]) -> Result<Found, Refusal>
     ensures value { result ≡ outcome_of s.now (length list.old) }
     ensures list_after { list.new ≡ list_after_of s.now list.old }
 {
     let e = elements::reading::read(s)?;
-    from_window(e, question(s), window(s), list)
+    let w = window(s);
+    let asked = question(s);
+    window_to_question(w, asked)?;
+    from_room(e, asked, w, list)
 }
 
 // ---- whether a record is accepted
@@ -148,14 +137,11 @@ pub fn admit(s: &[u8]) -> Result<Window, Refusal>
 // ---- what the program writes for a record
 
 // The job number of a whole record; any other piece has none.
+#[tactic(auto, unfolding(crate::specs::Reply::job_of))]
 pub fn job_number(s: &[u8]) -> u32
     ensures { result ≡ job_of s.now }
 {
-    if s.len() == 136 {
-        u32::read(s, 0)
-    } else {
-        0
-    }
+    if s.len() == 136 { u32::read(s, 0) } else { 0 }
 }
 
 // The record behind a job's intervals.

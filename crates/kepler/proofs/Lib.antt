@@ -2,4 +2,5 @@
 pub mod Laws
 pub mod Keeps
 pub mod Shortcut
+pub mod Stored
 pub mod Only

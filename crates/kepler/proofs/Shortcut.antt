@@ -1,15 +1,17 @@
 -- Where the search goes on from a guess: in a cell outside of which all is settled; and from 0 to a turn there is no outside.
-use mathlib.Core.Path.{◌≡◌, refl, ap}
-use Prim.Native.Nat.{ℕ, ◌+◌, ◌-◌, ◌*◌, ◌%◌, ◌^◌, ◌≤◌}
+use mathlib.Core.Path.{◌≡◌, refl, ap, ◌∙◌}
+use Prim.Native.Nat.{ℕ, ◌+◌, ◌-◌, ◌*◌, ◌%◌, ◌^◌, ◌≤◌, ◌<◌}
 use native.Mathlib.Omega.{arith}
 use lib.Dec.{lit≤}
-use lib.Pow.{pow_mono}
+use lib.Pow.{pow_mono, pow_pos}
 use Rattle.halving.specs.Foretold.{cell_of, YesUpTo, NoFrom}
+use Rattle.halving.specs.declared.Edge.{Edge}
+use Rattle.halving.specs.Halving.{halve}
+use Rattle.halving.proofs.Laws.{ends, uncounted}
 use Rattle.halving.proofs.Cells.{cell-within, from_cell}
-use Rattle.halving.proofs.Loop.{Looking}
 use Rattle.angle.specs.Turn.{turn}
 use Rattle.kepler.specs.declared.Bracket.{Bracket}
-use Rattle.kepler.specs.Kepler.{reached, search_of}
+use Rattle.kepler.specs.Kepler.{reached, search_of, kepler_of}
 use Rattle.kepler.specs.Shortcut.{InTurn, Halvings, cell_at, GoesOn}
 
 -- 2^s, as the machine shifts it
@@ -45,6 +47,11 @@ pub whole : (e M : ℕ) → GoesOn e M 32 (record { low = 0; high = turn })
 unfolding search_of
 whole e M = record { few = lit≤ tt; wide = refl; within = lit≤ tt; rest = refl }
 
--- what is left to a loop that halves
-pub looking : {e M s : ℕ} {b : Bracket} → GoesOn e M s b → Looking (reached e M) 32 (search_of e M) b.low b.high (32 - s)
-looking {s = s} c = record { left = s; all = omega (arith, c.few); wide = omega (arith, c.wide); rest = c.rest }
+-- what a search in that bracket finds, which counts its halvings from 0
+pub found : {e M s : ℕ} {b : Bracket} {r : Edge} → GoesOn e M s b → r ≡ halve (reached e M) s b.low b.high 0 → (r.low ≡ kepler_of e M) × (r.low < turn)
+unfolding kepler_of
+found {e} {M} {s} {b} {r} c is =
+    let f = reached e M in
+    let low : Edge → ℕ = λ v. v.low in
+    let end = ends f s b.low b.high 0 (omega (arith, c.wide, pow_pos s)) (omega (arith, c.wide)) in
+    (ap low is ∙ (uncounted f s b.low b.high 0 (32 - s)).0 ∙ ap low c.rest, rw is (omega (arith, end.neighbours, end.to, c.within)))

@@ -51,11 +51,13 @@ pub fn phase(period: u32, at: u64) -> Angle
 }
 
 // Kepler's equation for one instant: e and M, with the sine table by which K is read.
+#[derive(Drop)]
 struct Equation<'a> {
     sines: &'a Sines,
     eccentricity: u32,
     mean: Angle,
     ghost bounded: { Eccentricity eccentricity },
+    ghost in_turn: { InTurn mean.units },
 }
 
 // Whether the low end moves to E: K(E) ≤ M.
@@ -76,7 +78,10 @@ impl Equation<'_> {
         ensures { Is result (K self.now.eccentricity anomaly) most_mean }
     {
         let units = (anomaly % TURN) as u32;
-        let es = fixed::unit(i64::from(self.eccentricity), self.sines.sine(Angle { units }));
+        let es = fixed::unit(
+            i64::from(self.eccentricity),
+            self.sines.sine(Angle { units }),
+        );
         (anomaly as i64) - fixed::unit(es, RADIAN)
     }
 

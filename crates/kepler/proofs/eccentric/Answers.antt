@@ -1,27 +1,20 @@
-use mathlib.Core.Path.{ap, sym, ◌∙◌}
+-- `kepler::eccentric` meets its contract: what is left of the search, made in the cell that is sure, ends where the whole one does.
+use mathlib.Core.Path.{◌≡◌}
+use Prim.Native.Nat.{◌<◌}
 use native.Mathlib.Omega.{arith}
-use lib.Pow.{pow_pos}
-use Rattle.halving.specs.declared.Edge.{Edge}
-use Rattle.halving.proofs.Loop.{look_done, look_up, look_down}
+use Rattle.angle.specs.Turn.{turn}
 use Rattle.kepler.specs.Kepler.{kepler_of}
-use Rattle.kepler.proofs.Shortcut.{looking}
+use Rattle.kepler.proofs.Shortcut.{found}
 use Rattle.kepler.proofs.eccentric.Goals as goal
+use Rattle.kepler.proofs.eccentric.Goals.{After-halve-edge}
 
-pub loop-low-init : goal.loop-low-init
-loop-low-init c =
+edge_is : (c : After-halve-edge) → (c.halve-edge.result.low ≡ kepler_of c.args.e c.args.m.units) × (c.halve-edge.result.low < turn)
+edge_is c =
     let on = c.sure_cell-c.ensures.1 in
-    (omega (arith, on.wide, pow_pos c.sure_cell-c.ensures.0), on.within, (_, looking on))
+    found on (c.halve-edge.ensures _ (omega (arith, on.wide)))
 
-pub loop-low-preserved-then-reaches : goal.loop-low-preserved-then-reaches
-loop-low-preserved-then-reaches c =
-    let inv = c.loop-low.invariant in
-    (omega arith, inv.1, (_, look_up _ inv.2.1 (omega arith) (sym c.reaches.ensures ∙ c.if-reaches.true)))
-
-pub loop-low-preserved : goal.loop-low-preserved
-loop-low-preserved c =
-    let inv = c.loop-low.invariant in
-    (omega arith, omega arith, (_, look_down _ inv.2.1 (omega arith) (sym c.reaches.ensures ∙ c.if-reaches.false)))
+pub overflow_cast-units : goal.overflow_cast-units
+overflow_cast-units c = record { fits = (edge_is (goal.at.overflow_cast-units c).After-halve-edge).1 }
 
 pub returns : goal.returns
-unfolding kepler_of
-returns c = ap (λ (b : Edge). b.low) (look_done _ c.loop-low.invariant.2.1 (omega arith))
+returns c = (edge_is (goal.at.returns c).After-halve-edge).0

@@ -1,5 +1,6 @@
 -- The laws that the proofs of `elements`, and of the crates above it, cite.
 pub mod Range
+pub mod Ranges
 pub mod Sterbenz
 pub mod Distance
 pub mod Rows

@@ -1,4 +1,9 @@
 -- The contracts of the public functions, as the check reads them off the source, leave one answer only: each is an equation.
+use denote.RattleType.{RattleType}
+use denote.Param.Laws.{Laws}
+use lib.Ieee.{Float}
+use mir.Syntax.{Dict}
+use Rattle.std.specs.declared.ops.RangeBounds.{Ghosts}
 use Rattle.determined.specs.Determined.{OneResult, by_value}
 use Rattle.elements.proofs.closest.closest.Kinds as closest
 use Rattle.elements.proofs.closest.closest.Reads as closest-reads
@@ -6,8 +11,6 @@ use Rattle.elements.proofs.fields.float.Kinds as float
 use Rattle.elements.proofs.fields.float.Reads as float-reads
 use Rattle.elements.proofs.fields.field.Kinds as field
 use Rattle.elements.proofs.fields.field.Reads as field-reads
-use Rattle.elements.proofs.fields.turn.Kinds as turn
-use Rattle.elements.proofs.fields.turn.Reads as turn-reads
 use Rattle.elements.proofs.reading.read.Kinds as read
 use Rattle.elements.proofs.reading.read.Reads as read-reads
 use Rattle.elements.proofs.rounding.rounded.Kinds as rounded
@@ -19,11 +22,9 @@ closest_only κs a x y s t p q = by_value _ p q
 pub float_only : OneResult 1 float.ps float.r float-reads.Post
 float_only κs a x y s t p q = by_value _ p q
 
-pub field_only : OneResult 1 field.ps field.r field-reads.Post
-field_only κs a x y s t p q = by_value _ p q
-
-pub turn_only : OneResult 1 turn.ps turn.r turn-reads.Post
-turn_only κs a x y s t p q = by_value _ p q
+-- with a range of any type, by what that type says of its ends
+pub field_only : (R : RattleType) (laws : Laws R) (ends : Ghosts R.Denot Float) (d e : Dict) → OneResult 2 (field.ps R laws) (field.r R laws) (field-reads.Post R laws ends d e)
+field_only R laws ends d e κs a x y s t p q = by_value _ p q
 
 pub read_only : OneResult 1 read.ps read.r read-reads.Post
 read_only κs a x y s t p q = by_value _ p q

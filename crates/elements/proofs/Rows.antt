@@ -13,11 +13,10 @@ use lib.Ieee.Scale.{finite}
 use Rattle.words.specs.Little.{read_of, Bytes}
 use Rattle.words.proofs.Laws.{read-lt}
 use Rattle.refusal.specs.Refusal.{order_of, field_of}
-use Rattle.refusal.specs.Rows.{when, row_at, Passes}
+use Rattle.std.specs.Prelude.{Ok, Err}
+use Rattle.refusal.specs.Rows.{Verdict, passed, when, row_at, Passes}
 use Rattle.refusal.specs.declared.Refusal.{Refusal}
 use Rattle.refusal.specs.declared.Refusal.TheVariants.{Length, Word, NotFinite, OutOfRange, TooClose, Window, Step, Question, Room}
-use Rattle.refusal.specs.declared.Verdict.{Verdict}
-use Rattle.refusal.specs.declared.Verdict.TheVariants as verdict
 use Rattle.refusal.proofs.Order.{not-both, when-refused, when-passed, when-order, row-append, Each, Ordered, each_weaker}
 use Rattle.refusal.proofs.Order.Each.{done, ◌also◌}
 use Rattle.elements.specs.Field.{field_at, HasField, bits_in, float_of, judge}
@@ -31,7 +30,7 @@ abbrev pub Told : List ℕ → ℕ → Refusal → Type 0
 Told s n r = (order_of r ≡ n) × (WholeRecord s → Bytes s → Returns s r)
 
 -- of a row that names no field
-pub plain : (s : List ℕ) (test : Bool) (q r : Refusal) → field_of q ≡ 0 → when test q ≡ verdict.Refused r → Told s (order_of q) r
+pub plain : (s : List ℕ) (test : Bool) (q r : Refusal) → field_of q ≡ 0 → when test q ≡ Err r → Told s (order_of q) r
 plain s test q r none h =
     let e : field_of r ≡ 0 = ap field_of (sym (when-refused test q r h).1) ∙ none in
     (when-order test q r h, λ w b named. absurd (omega arith))
@@ -51,11 +50,11 @@ module _ (s : List ℕ) (k : ℕ) where
   out_of_range : HasField s k → Bytes s → finite x ≡ true → Returns s (OutOfRange k x)
   out_of_range h b f named = (refl, to_bits-of_bits binary64 (bits_in s k) (read-lt 8 s (field_at k) h b) (finite_no_nan x f))
 
-  field_told : k ≤ 13 → (accepted : Bool) (r : Refusal) → judge s k x accepted ≡ verdict.Refused r → Told s (1 + k) r
+  field_told : k ≤ 13 → (accepted : Bool) (r : Refusal) → judge s k x accepted ≡ Err r → Told s (1 + k) r
   unfolding judge
   field_told within accepted r h = go (finite x) refl h
     where
-      go : (f : Bool) → finite x ≡ f → cond f (when (not accepted) (OutOfRange k x)) (verdict.Refused (NotFinite k x (bits_in s k))) ≡ verdict.Refused r → Told s (1 + k) r
+      go : (f : Bool) → finite x ≡ f → cond f (when (not accepted) (OutOfRange k x)) (Err (NotFinite k x (bits_in s k))) ≡ Err r → Told s (1 + k) r
       go true f h = (
         when-order (not accepted) (OutOfRange k x) r h,
         λ w b. subst (Returns s) (when-refused (not accepted) (OutOfRange k x) r h).1 (out_of_range (omega arith) b f),
@@ -65,11 +64,11 @@ module _ (s : List ℕ) (k : ℕ) where
         λ w b. subst (Returns s) (when-refused true (NotFinite k x (bits_in s k)) r h).1 (λ named. (refl, refl)),
       )
 
-  pub field_in : (accepted : Bool) → judge s k x accepted ≡ verdict.Passed → T accepted
+  pub field_in : (accepted : Bool) → judge s k x accepted ≡ passed → T accepted
   unfolding judge
   field_in accepted h = go (finite x) h
     where
-      go : (f : Bool) → cond f (when (not accepted) (OutOfRange k x)) (verdict.Refused (NotFinite k x (bits_in s k))) ≡ verdict.Passed → T accepted
+      go : (f : Bool) → cond f (when (not accepted) (OutOfRange k x)) (Err (NotFinite k x (bits_in s k))) ≡ passed → T accepted
       go true h = subst T (sym (not-false accepted (when-passed (not accepted) (OutOfRange k x) h))) tt
       go false h = absurd (not-both h refl)
 
@@ -184,5 +183,5 @@ named_later Step h = lit< tt
 named_later Question h = lit< tt
 named_later Room h = lit< tt
 
-pub length-passed : (s : List ℕ) → when (not (eqb (length s) 136)) Length ≡ verdict.Passed → WholeRecord s
+pub length-passed : (s : List ℕ) → when (not (eqb (length s) 136)) Length ≡ passed → WholeRecord s
 length-passed s h = eqb-true (length s) 136 (not-false (eqb (length s) 136) (when-passed (not (eqb (length s) 136)) Length h))

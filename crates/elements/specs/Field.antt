@@ -3,6 +3,9 @@ use Rattle.std.specs.Prelude.{Bool, ◌&&◌, not, cond, List, ℕ, ◌*◌, Flo
 use Rattle.std.specs.Float.{binary64}
 use Rattle.std.specs.Float.Ieee.{of_bits, neg, le, lt}
 use Rattle.std.specs.Float.Ieee.Scale.{finite}
+use Rattle.std.specs.Ordering.{float_partial_cmp}
+use Rattle.std.specs.Bound.{bounds_contain}
+use Rattle.std.specs.declared.ops.Bound.{Bound}
 use Rattle.words.specs.Little.{read_of, Holds}
 use Rattle.nearest.specs.Nearest.{decimal, number}
 use Rattle.refusal.specs.Rows.{Verdict, when}
@@ -32,6 +35,10 @@ within low high x = le low x && le x high
 -- the upper end left out
 abbrev pub below : Float → Float → Float → Bool
 below low high x = le low x && lt x high
+
+-- what a range accepts, by its two ends, as std's `contains` compares floats
+unfoldable pub accepts : Bound Float → Bound Float → Float → Bool
+accepts start end x = bounds_contain float_partial_cmp start end x
 
 -- field 1, semimajor axis, km: 100 to 250,000
 abbrev pub axis_in : Float → Bool

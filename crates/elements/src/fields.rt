@@ -1,81 +1,45 @@
 // One field of the orbit record: its float, and the row of the table for it.
 ghost use Rattle.std.specs.Prelude.{◌≡◌};
-ghost use Rattle.std.specs.Float.{binary64};
-ghost use Rattle.std.specs.Float.Ieee.{of_bits};
-ghost use Rattle.std.specs.Float.Ieee.Scale.{finite};
-ghost use Rattle.elements.specs.Field.{within, turn_in, HasField, float_of, judge, field_row_of};
+ghost use Rattle.elements.specs.Field.{HasField, float_of, accepts, field_row_of};
 
 use refusal::{Refusal, row};
+use std::num::f64_from_bits_with_nan;
+use std::ops::RangeBounds;
 use words::Word;
 
-// The float that a pattern is, a NaN's too, which `from_bits` does not take.
-fn value(bits: u64) -> f64
-    ensures { result ≡ of_bits binary64 bits }
-{
-    if bits % 0x8000_0000_0000_0000 <= 0x7ff0_0000_0000_0000 {
-        f64::from_bits(bits)
-    } else {
-        0.0 / 0.0
-    }
-}
+// How many bytes the orbit record has.
+pub const RECORD: usize = 136;
 
 // Field k's float as it stands in the record.
-pub fn float(s: &[u8], k: u32) -> f64
+pub fn float(s: &[u8; RECORD], k: u32) -> f64
     requires { HasField s.now k }
     ensures { result ≡ float_of s.now k }
 {
-    value(u64::read(s, 8 * k as usize))
+    f64_from_bits_with_nan(u64::read(s, 8 * k as usize))
 }
 
-// Neither a NaN nor infinite: a NaN is on no side of anything.
-fn is_finite(x: f64) -> bool
-    ensures { result ≡ finite x }
+// Field k with the float x: refusal 3 comes before refusal 4. Minus zero is zero: the comparison has it so.
+// The bytes are looked at again only for refusal 3, for a NaN's own bits.
+#[tactic(auto, using(crate::proofs::Ranges::std_finite), unfolding(crate::specs::Field::judge, crate::specs::Field::accepts))]
+pub fn field<R: RangeBounds<f64>>(
+    s: &[u8; RECORD],
+    k: u32,
+    x: f64,
+    accepted: R,
+) -> Result<(), Refusal>
+    requires has_field { HasField s.now k }
+    requires has_bounds { R.has_bounds accepted }
+    ensures { result ≡ field_row_of s.now k x (accepts (R.start_bound accepted) (R.end_bound accepted)) }
 {
-    let infinity = 1.0 / 0.0;
-    -infinity < x && x < infinity
-}
-
-// Both ends included. Minus zero is zero: the comparison has it so.
-fn is_within(x: f64, low: f64, high: f64) -> bool
-    ensures { result ≡ within low high x }
-{
-    low <= x && x <= high
-}
-
-// From 0 up to, not with, 360.
-fn is_turn(x: f64) -> bool
-    ensures { result ≡ turn_in x }
-{
-    0.0 <= x && x < 360.0
-}
-
-// Field k with the float x: refusal 3 comes before refusal 4. The bytes are looked at again only for refusal 3, for a NaN's own bits.
-fn judged(s: &[u8], k: u32, x: f64, accepted: bool) -> Result<(), Refusal>
-    requires { HasField s.now k }
-    ensures { result ≡ judge s.now k x accepted }
-{
-    if is_finite(x) {
-        return row(!accepted, Refusal::OutOfRange { field: k, value: x });
+    if !x.is_finite() {
+        return Err(Refusal::NotFinite {
+            field: k,
+            value: x,
+            bits: u64::read(s, 8 * k as usize),
+        });
     }
-    Err(Refusal::NotFinite {
-        field: k,
-        value: x,
-        bits: u64::read(s, 8 * k as usize),
-    })
-}
-
-// Field k with the float x, accepted from `low` to `high`.
-pub fn field(s: &[u8], k: u32, x: f64, low: f64, high: f64) -> Result<(), Refusal>
-    requires { HasField s.now k }
-    ensures { result ≡ field_row_of s.now k x (within low high) }
-{
-    judged(s, k, x, is_within(x, low, high))
-}
-
-// Field k with the float x, an angle from 0 up to, not with, 360.
-pub fn turn(s: &[u8], k: u32, x: f64) -> Result<(), Refusal>
-    requires { HasField s.now k }
-    ensures { result ≡ field_row_of s.now k x turn_in }
-{
-    judged(s, k, x, is_turn(x))
+    row(
+        !accepted.contains(&x),
+        Refusal::OutOfRange { field: k, value: x },
+    )
 }

@@ -25,6 +25,7 @@ pub struct Wholes {
 }
 
 // Accepted elements, each to the nearest whole number.
+#[tactic(auto, unfolding(crate::specs::Rounding::wholes_of))]
 pub fn rounded(e: Elements) -> Wholes
     requires { Accepted e }
     ensures { result ≡ wholes_of e }

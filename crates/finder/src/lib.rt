@@ -9,7 +9,7 @@ ghost use Rattle.finder.specs.Samples.{Good, steps_of};
 ghost use Rattle.finder.specs.Spans.{edge, closed_in, ended, list_of};
 ghost use Rattle.finder.specs.Flags.{differing};
 ghost use Rattle.finder.specs.Records.{written, found_of, HasRoom};
-ghost use Rattle.finder.specs.State.{Sampled, next, Stretch, Along, Turned, RoomFor, Flagged, closed_out, advanced, finished, finished_out};
+ghost use Rattle.finder.specs.State.{Sampled, next, Stretch, Along, Turned, RoomFor, Flagged, closed_out, advanced, AtEnd, finished, was_of, first_of};
 
 use geometry::Sky;
 use halving::{Edge, Search};
@@ -31,14 +31,18 @@ pub struct Found {
     pub asked: u64,
 }
 
-// The finder has come to the sample `at`, which answered `was`; where that is yes, the open interval began at `first`, with the flags `begun`.
-// So far it wrote `count` intervals and asked `asked` instants.
+// The interval that is open: its first instant, and its flags for that.
+#[derive(Clone, Copy)]
+struct Begun {
+    pub first: u64,
+    pub flags: u32,
+}
+
+// The finder has come to the sample `at`. Where that answered yes, an interval has begun. So far it wrote `count` intervals and asked `asked` instants.
 #[derive(Clone, Copy)]
 struct State {
     pub at: u64,
-    pub was: bool,
-    pub first: u64,
-    pub begun: u32,
+    pub begun: Option<Begun>,
     pub count: usize,
     pub asked: u64,
 }
@@ -123,17 +127,17 @@ impl Finder<'_> {
     }
 
     // Closes the open interval at `last`, with these flags for it: the record after the `count` that are there.
-    fn put(&self, out: &mut [u8], s: State, last: u64, flags: u32)
-        requires { (RoomFor s.count 1 out.old) × (Flagged s flags) }
-        ensures { out.new ≡ closed_out self.now.window s last flags out.old }
+    fn put(&self, out: &mut [u8], count: usize, begun: Begun, last: u64, flags: u32)
+        requires { (RoomFor count 1 out.old) × (Flagged begun flags) }
+        ensures { out.new ≡ closed_out self.now.window count begun last flags out.old }
     {
         let r = Interval {
             job: self.window.job,
-            flags: s.begun + flags,
-            first: s.first,
+            flags: begun.flags + flags,
+            first: begun.first,
             last,
         };
-        interval::write(out, 24 * s.count, r);
+        interval::write(out, 24 * count, r);
     }
 
     // One step, to the sample b. From no to yes: the high neighbour is a first. From yes to no: the low one is a last. The flags of a last are
@@ -141,49 +145,50 @@ impl Finder<'_> {
     fn advance(&self, out: &mut [u8], s: State, b: u64) -> State
         requires { Along (answers self.now) (sights self.now) self.now.window s b out.old }
         ensures value { result ≡ advanced (answers self.now) (sights self.now) self.now.window s b }
-        ensures out_after { out.new ≡ written (sights self.now) self.now.window out.old s.count (closed_in (answers self.now) s.first s.at b) }
+        ensures out_after { out.new ≡ written (sights self.now) self.now.window out.old s.count (closed_in (answers self.now) (first_of s) s.at b) }
     {
-        let yes = self.answer(b);
-        if yes == s.was {
+        let was = s.begun.is_some();
+        if self.answer(b) == was {
             return State {
                 at: b,
                 asked: s.asked + 1,
                 ..s
             };
         }
-        let e = self.halve(s.at, b, s.was);
+        let e = self.halve(s.at, b, was);
         let asked = s.asked + 1 + e.asked;
-        let flags = self.why(e, s.was);
-        if yes {
-            return State {
+        let flags = self.why(e, was);
+        match s.begun {
+            None => State {
                 at: b,
-                was: yes,
-                first: e.high,
-                begun: flags,
+                begun: Some(Begun {
+                    first: e.high,
+                    flags,
+                }),
                 count: s.count,
                 asked,
-            };
-        }
-        self.put(out, s, e.low, 4 * flags);
-        State {
-            at: b,
-            was: yes,
-            first: s.first,
-            begun: s.begun,
-            count: s.count + 1,
-            asked,
+            },
+            Some(begun) => {
+                self.put(out, s.count, begun, e.low, 4 * flags);
+                State {
+                    at: b,
+                    begun: None,
+                    count: s.count + 1,
+                    asked,
+                }
+            }
         }
     }
 
     // The end: a yes at the last sample closes an interval there.
     fn close(&self, out: &mut [u8], s: State) -> Found
-        requires { (RoomFor s.count (length (ended s.was s.first s.at)) out.old) × (Flagged s 2) }
+        requires { AtEnd (answers self.now) (sights self.now) self.now.window s out.old }
         ensures value { result ≡ finished s }
-        ensures out_after { out.new ≡ finished_out self.now.window s out.old }
+        ensures out_after { out.new ≡ written (sights self.now) self.now.window out.old s.count (ended (was_of s) (first_of s) s.at) }
     {
         let mut intervals = s.count;
-        if s.was {
-            self.put(out, s, s.at, 2);
+        if let Some(begun) = s.begun {
+            self.put(out, s.count, begun, s.at, 2);
             intervals += 1;
         }
         Found {
@@ -198,11 +203,14 @@ impl Finder<'_> {
         ensures value { result ≡ found_of (answers self.now) self.now.window }
         ensures out_after { out.new ≡ written (sights self.now) self.now.window out.old 0 (list_of (answers self.now) self.now.window) }
     {
+        let start = self.window.t0;
+        let begun = self.answer(start).then_some(Begun {
+            first: start,
+            flags: 1,
+        });
         let mut s = State {
-            at: self.window.t0,
-            was: self.answer(self.window.t0),
-            first: self.window.t0,
-            begun: 1,
+            at: start,
+            begun,
             count: 0,
             asked: 1,
         };

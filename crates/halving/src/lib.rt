@@ -1,4 +1,4 @@
-// A search by halving: its rule is specs/Halving.antt. Its laws are in proofs/Laws.antt; with less work it may begin in a cell (proofs/Foretold.antt, proofs/Cells.antt).
+// A search by halving, by the rule of specs/Halving.antt (its laws: proofs/Laws.antt). With less work it may begin in a cell (proofs/Cells.antt).
 #![tactic(auto)]
 
 ghost use Rattle.std.specs.Prelude.{◌≡◌, ℕ, ◌+◌, ◌^◌, ◌≤◌, ◌<◌, Bool};

@@ -45,10 +45,6 @@ module _ (w : Window) where
   unfolding admission_from
   from-refused v r h = rw h
 
-  pub from-passed : (v : Verdict) → v ≡ passed → Ok w ≡ admission_from v w
-  unfolding admission_from
-  from-passed v h = rw h
-
 -- the window that is let in
 abbrev window_in : Window → Admission → Window
 window_in w (Ok v) = v

@@ -15,9 +15,6 @@ use Rattle.elements.proofs.Rows.{ordered}
 use Rattle.elements.proofs.Exactly.{read-exactly, refused-exactly}
 use Rattle.geometry.specs.declared.Sight.{Sight}
 use Rattle.finder.specs.declared.Window.{Window}
-use Rattle.finder.specs.declared.Found.{Found}
-use Rattle.finder.specs.Spans.{list_of}
-use Rattle.finder.specs.Records.{records_of, found_of}
 use Rattle.job.specs.Table.{window_of, question_of, room_row, rows_to_question, rows_from_window, table_of, table_but_room}
 use Rattle.job.specs.Outcome.{Outcome, answers_of, sights_of, answers_in, sights_in, outcome_from, records_from, outcome_of, records_in, list_after_of}
 
@@ -31,10 +28,6 @@ module _ (f : ℕ → Bool) (g : ℕ → Sight) (w : Window) (old : List ℕ) wh
   pub refused : (v : Verdict) (r : Refusal) → v ≡ Err r → Answers v (Err r) old
   unfolding outcome_from records_from
   refused v r h = rw h (refl, refl)
-
-  pub listed : (v : Verdict) (n : Found) (new : List ℕ) → v ≡ passed → n ≡ found_of f w → new ≡ sets old 0 (records_of g w (list_of f w)) → Answers v (Ok n) new
-  unfolding outcome_from records_from
-  listed v n new h a b = rw (h, a) (refl, b)
 
 -- ---- a table in two parts
 

@@ -16,6 +16,7 @@ use Rattle.refusal.proofs.Order.{then-passed, when-passed, passed-exactly}
 use Rattle.finder.specs.declared.Window.{Window}
 use Rattle.finder.specs.Samples.{last_end, longest_step, most_steps, Good, steps_of}
 use Rattle.finder.specs.Records.{room_of}
+use Rattle.finder.proofs.Samples.{steps-fit}
 use Rattle.job.specs.Table.{bad_window, bad_step, bad_question, no_room_of, window_row, step_row, question_row, room_row, rows_to_question}
 
 neither : (a b : Bool) → (a || b) ≡ false → (a ≡ false) × (b ≡ false)
@@ -39,8 +40,8 @@ module _ (w : Window) (m : ℕ) (some : 1 ≤ w.step) where
   unfolding steps_of
   few h = (div-lt_iff_lt-mul some).1 (rw (suc-mul m w.step) (omega arith))
 
-  pub more_steps : ltb (m * w.step) (w.t1 - w.t0) ≡ ltb m (steps_of w)
-  more_steps = by (ltb (m * w.step) (w.t1 - w.t0)) refl
+  pub more-steps : ltb (m * w.step) (w.t1 - w.t0) ≡ ltb m (steps_of w)
+  more-steps = by (ltb (m * w.step) (w.t1 - w.t0)) refl
     where
       by : (t : Bool) → ltb (m * w.step) (w.t1 - w.t0) ≡ t → t ≡ ltb m (steps_of w)
       by true e = sym (lt-ltb m (steps_of w) (many (ltb-true _ _ e)))
@@ -50,6 +51,9 @@ module _ (w : Window) (m : ℕ) (some : 1 ≤ w.step) where
 pub room-is : (w : Window) → 24 * ((steps_of w + 2) / 2) ≡ room_of w
 unfolding room_of
 room-is w = omega arith
+
+-- what `bad_step` and `no_room` say of the steps, for the check
+pub ruleset counts = (more-steps, steps-fit, room-is)
 
 -- ---- 6 and 7
 

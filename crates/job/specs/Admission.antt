@@ -5,10 +5,11 @@ use Rattle.refusal.specs.declared.Refusal.{Refusal}
 use Rattle.finder.specs.declared.Window.{Window}
 use Rattle.job.specs.Table.{window_of, table_but_room}
 
--- the window, or the refusal
+-- what a record is told: the window, or the refusal
 abbrev pub Admission : Type 0
 Admission = Result Window Refusal
 
+-- the refusal, or the window
 unfoldable pub admission_from : Verdict → Window → Admission
 admission_from (Ok t) w = Ok w
 admission_from (Err r) w = Err r

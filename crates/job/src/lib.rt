@@ -61,7 +61,7 @@ fn bad_window(w: Window) -> bool
 }
 
 // A step of 0, too long a step, or more than 4,096 of them. No division, so that a step of 0 does no harm.
-#[tactic(auto, using(crate::proofs::Laws::more_steps), unfolding(crate::specs::Table::bad_step))]
+#[tactic(auto, using(crate::proofs::Laws::counts), unfolding(crate::specs::Table::bad_step))]
 fn bad_step(w: Window) -> bool
     ensures { result ≡ bad_step w }
 {
@@ -88,6 +88,7 @@ fn window_to_question(w: Window, question: u32) -> Result<(), Refusal>
 // ---- refusal 9, and the list
 
 // Less than 24·ceil((n+1)/2) bytes, n steps.
+#[tactic(auto, using(crate::proofs::Laws::counts), unfolding(crate::specs::Table::no_room_of))]
 fn no_room(w: Window, room: usize) -> bool
     requires { Good w }
     ensures { result ≡ no_room_of w room }

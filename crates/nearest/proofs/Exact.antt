@@ -90,6 +90,10 @@ sized w x W F h =
 
 -- ---- what the conversions cite
 
+-- of an `f64`: the format holds it
+pub held : {b : Bool} → b ≡ true → T b
+held e = subst T (sym e) tt
+
 pub digits_lead : (f t : ℕ) → (f ≡ 0 → ⊥) → 2 ^ 52 + t ≡ digits_in f t
 digits_lead zero t h = absurd (h refl)
 digits_lead (suc j) t h = refl

@@ -3,7 +3,7 @@
 #![tactic(auto)]
 
 ghost use Rattle.std.specs.Prelude.{◌≡◌, ◌+◌, ◌/◌, ◌^◌};
-ghost use Rattle.nearest.specs.Nearest.{nearest_of, metres_of, milliseconds_of, eccentricity_of, units_of, UpTo};
+ghost use Rattle.nearest.specs.Nearest.{nearest_of, eccentricity_of, units_of, UpTo};
 ghost use Rattle.nearest.specs.Pattern.{digits_of, shift_of, ByShift};
 
 // n / 2^k, for a k that may pass the width.
@@ -46,38 +46,22 @@ fn shift(bits: u64) -> u64
     }
 }
 
-// The nearest to 1000·x.
-fn thousandths(x: f64) -> u32
-    requires { UpTo 21 x }
-    ensures { result ≡ nearest_of 1000 1 x }
-{
-    let bits = f64::to_bits(x);
-    halved(shifted(digits(bits) * 2000, shift(bits))) as u32
-}
-
 // The nearest to x·2^j / q. The digits are shifted before they are divided, so that no product is wide.
 fn by_power(x: f64, j: u64, q: u64) -> u64
     requires { ByShift j q x }
     ensures { result ≡ nearest_of (2 ^ j) q x }
 {
-    let bits = f64::to_bits(x);
+    let bits = x.to_bits();
     halved(shifted(digits(bits), shift(bits) - (1 + j)) / q)
 }
 
-// A length in km, in metres.
-pub fn metres(x: f64) -> u32
+// The nearest to 1000·x: a length in km in metres, a time in s in milliseconds.
+pub fn thousandths(x: f64) -> u32
     requires { UpTo 21 x }
-    ensures { result ≡ metres_of x }
+    ensures { result ≡ nearest_of 1000 1 x }
 {
-    thousandths(x)
-}
-
-// A time in s, in ms.
-pub fn milliseconds(x: f64) -> u32
-    requires { UpTo 21 x }
-    ensures { result ≡ milliseconds_of x }
-{
-    thousandths(x)
+    let bits = x.to_bits();
+    halved(shifted(digits(bits) * 2000, shift(bits))) as u32
 }
 
 // An eccentricity in units of 2^-30.

@@ -1,16 +1,13 @@
 use Prim.Native.Nat.{◌+◌, ◌^◌, ◌≤◌, ◌<◌}
 use mathlib.Core.Path.{sym, ◌∙◌}
 use native.Mathlib.Omega.{arith}
-use Rattle.halving.proofs.Loop.{look_start, look_done, look_more, look_up, look_down}
+use Rattle.halving.proofs.Loop.{look_done, look_more, look_up, look_down}
 use Rattle.halving.proofs.halve.Goals as goal
 
 pub overflow_add-edge : goal.overflow_add-edge
 overflow_add-edge g c =
     let enough : c.args.high ≤ c.args.low + 2 ^ 64 = omega arith in
     omega (arith, look_more _ (c.loop-edge.invariant.looking 64 enough) (omega arith))
-
-pub loop-edge-init : goal.loop-edge-init
-loop-edge-init g c = record { from = omega arith; ordered = omega arith; to = omega arith; looking = λ n wide. look_start _ n _ _ wide }
 
 pub loop-edge-preserved-then-moves : goal.loop-edge-preserved-then-moves
 loop-edge-preserved-then-moves g c =

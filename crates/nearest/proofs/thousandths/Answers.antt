@@ -1,16 +1,10 @@
 -- `nearest::thousandths` meets its contract: the float is its digits over a power of two, and the answer fits by its bound.
-use mathlib.Core.Path.{sym, subst}
 use native.Mathlib.Omega.{arith}
-use lib.Dec.{T, lit<, lit≤}
-use lib.Ieee.{binary64, fits, to_bits}
+use lib.Dec.{lit<, lit≤}
+use lib.Ieee.{binary64, to_bits}
 use Rattle.nearest.proofs.Nearest.{nearest_of-le}
-use Rattle.nearest.proofs.Exact.{no_nan, digits_lt, by_whole}
+use Rattle.nearest.proofs.Exact.{held, no_nan, digits_lt, by_whole}
 use Rattle.nearest.proofs.thousandths.Goals as goal
-use Rattle.nearest.proofs.thousandths.Goals.{Start}
-
--- what owning an `f64` tells: the format holds it
-held : (c : goal.Start) → T (fits binary64 c.args.x)
-held c = subst T (sym c.well_formed.0.1) tt
 
 pub float_to_bits-bits : goal.float_to_bits-bits
 float_to_bits-bits c = no_nan c.args.x c.requires.finite_is
@@ -21,7 +15,7 @@ overflow_mul-digits c = omega (arith, c.digits.ensures, digits_lt (to_bits binar
 pub returns : goal.returns
 returns c =
     rw (c.halved.ensures, c.shifted.ensures, c.digits.ensures, c.shift.ensures)
-    (by_whole 21 c.args.x (lit≤ tt) (held (goal.at.returns c).Start) c.requires 1000)
+    (by_whole 21 c.args.x (lit≤ tt) (held c.well_formed.0.1) c.requires 1000)
 
 pub overflow_cast-result : goal.overflow_cast-result
 overflow_cast-result c = omega (arith, returns c, nearest_of-le 21 1000 1 c.args.x (lit< tt) c.requires)

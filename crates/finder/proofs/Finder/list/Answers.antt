@@ -1,11 +1,11 @@
 -- `finder::Finder::list` meets its contract.
 use mathlib.Core.Path.{◌∙◌}
 use Rattle.std.proofs.Math.Numerals.{add-one}
-use Rattle.finder.proofs.Going.{going_start, going_sampled, going_along, going_on, end-room, end_flagged, end-found, end_out}
+use Rattle.finder.proofs.Going.{going_start, going_sampled, going_along, going_on, at-end, end-found, end_out}
 use Rattle.finder.proofs.Finder.list.Goals as goal
 
 pub loop-init : goal.loop-init
-loop-init c = going_start _ _ _ _ c.args.self.now.good _ c.answer.ensures
+loop-init c = going_start _ _ _ _ c.args.self.now.good _ (rw c.answer.ensures at c.then_some-begun.ensures)
 
 pub sample-requires : goal.sample-requires
 sample-requires c = going_sampled c.args.self.now.good c.loop.invariant
@@ -19,9 +19,7 @@ loop-preserved c =
     (going_on c.args.self.now.good c.loop.invariant (rw c.steps-end.ensures at c.loop-test.true) _ (rw c.sample.ensures at c.advance-s.ensures.out_after))
 
 pub close-requires : goal.close-requires
-close-requires c =
-    let none = rw c.steps-end.ensures at c.loop-test.false in
-    (end-room c.args.self.now.good c.loop.invariant none c.requires, end_flagged c.args.self.now.good c.loop.invariant none)
+close-requires c = at-end c.args.self.now.good c.loop.invariant (rw c.steps-end.ensures at c.loop-test.false) c.requires
 
 pub returns : goal.returns
 returns c =

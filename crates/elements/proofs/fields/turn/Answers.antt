@@ -1,7 +1,0 @@
--- `elements::turn` meets its contract: the row with the test's answer.
-use mathlib.Core.Path.{ap, ◌∙◌}
-use Rattle.elements.specs.Field.{judge}
-use Rattle.elements.proofs.fields.turn.Goals as goal
-
-pub returns : goal.returns
-returns c = c.judged.ensures ∙ ap (judge _ _ _) c.is_turn.ensures

@@ -50,7 +50,8 @@ pub fn phase(period: u32, at: u64) -> Angle
     Angle { units }
 }
 
-// Kepler's equation for one instant: e and M, with the sine table by which K is read.
+// Kepler's equation for one instant: e and M, with the sine table by which K is read. An anomaly stays a plain number: sums go beyond a turn, so a type of those up to a turn
+// would be left at each step, and be no plainer than a clause.
 #[derive(Drop)]
 struct Equation<'a> {
     sines: &'a Sines,

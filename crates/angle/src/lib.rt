@@ -24,7 +24,7 @@ impl Angle {
         ensures { result.units ≡ negate_of self.units }
     {
         Angle {
-            units: std::num::wrapping_sub_u32(0, self.units),
+            units: self.units.wrapping_neg(),
         }
     }
 
@@ -33,7 +33,7 @@ impl Angle {
         ensures { result.units ≡ add_of self.units other.units }
     {
         Angle {
-            units: std::num::wrapping_add_u32(self.units, other.units),
+            units: self.units.wrapping_add(other.units),
         }
     }
 

@@ -8,23 +8,22 @@ use borrow.Author.Tests.{eqb-true, not-false, eq-eqb, ne_eqb, lt-ltb, le-ltb}
 use lib.Dec.{eqb}
 use lib.ListN.{length, take, drop}
 use lib.Seq.{sets, take_at, take-length}
+use Rattle.std.specs.Prelude.{Option, Some, None, Ok, Err}
+use Rattle.std.specs.Option.{ok_or}
 use Rattle.finder.specs.declared.Window.{Window}
 use Rattle.finder.specs.Samples.{Good}
 use Rattle.finder.specs.Spans.{Span}
 use Rattle.refusal.specs.declared.Refusal.{Refusal}
 use Rattle.job.specs.Table.{window_of}
 use Rattle.job.specs.Admission.{admission_of}
-use Rattle.job.specs.declared.Admission.TheVariants.{Admitted, TurnedAway}
 use Rattle.job.proofs.Admits.{admitted_good}
 use Rattle.days.specs.Days.{day_of, days_between, days_of, most_days}
 use Rattle.days.specs.Summary.{summary_of}
 use Rattle.days.specs.Given.{span_at, spans_of, bad_span, bad_spans, bad_list, same, bad_append}
-use Rattle.days.specs.Totals.{short_room, totals_by, left_by}
+use Rattle.days.specs.Totals.{Totals, short_room, totals_by, left_by}
 use Rattle.days.specs.State.{next_from, HasRoom, Awaits, worked_of, SummedUp}
-use Rattle.days.specs.declared.Totals.{Totals}
-use Rattle.days.specs.declared.Totals.TheVariants.{Written, Job, SummaryRoom, BadList}
-use Rattle.days.specs.declared.Worked.{Worked}
-use Rattle.days.specs.declared.Worked.TheVariants.{Ordered, Bad}
+use Rattle.days.specs.declared.Fault.{Fault}
+use Rattle.days.specs.declared.Fault.TheVariants.{Job, SummaryRoom, BadList}
 use Rattle.days.proofs.Bools.{neither, or-true, not-not}
 use Rattle.days.proofs.Sames.{same-is}
 use Rattle.days.proofs.Longer.{longer-is}
@@ -55,22 +54,31 @@ copied w l own lent is room put =
 
 -- ---- what was told of a list
 
-abbrev next_in : ℕ → Worked → ℕ
-next_in n (Ordered k) = k
-next_in n Bad = n
+abbrev next_in : ℕ → Option ℕ → ℕ
+next_in n (Some k) = k
+next_in n None = n
 
-told-by : (b : Bool) (next : ℕ) → (cond b Bad (Ordered next) ≡ Bad → b ≡ true) × ((n : ℕ) → cond b Bad (Ordered next) ≡ Ordered n → (b ≡ false) × (n ≡ next))
+told-by : (b : Bool) (next : ℕ) → (cond b None (Some next) ≡ None → b ≡ true) × ((n : ℕ) → cond b None (Some next) ≡ Some n → (b ≡ false) × (n ≡ next))
 told-by true next = (λ h. refl, λ n h. let z : ◌≡◌ {A = ℕ} 0 1 = cc in absurd (omega arith))
 told-by false next = (λ h. let z : ◌≡◌ {A = ℕ} 0 1 = cc in absurd (omega arith), λ n h. (refl, sym (ap (next_in 0) h)))
 
 module _ (w : Window) (list : List ℕ) where
-  pub told_bad : worked_of w list ≡ Bad → bad_list w list ≡ true
+  pub told_bad : worked_of w list ≡ None → bad_list w list ≡ true
   unfolding worked_of
   told_bad h = (told-by (bad_list w list) (next_from w.t0 (spans_of list))).0 h
 
-  pub told-good : (n : ℕ) → worked_of w list ≡ Ordered n → (bad_list w list ≡ false) × (n ≡ next_from w.t0 (spans_of list))
+  pub told-good : (n : ℕ) → worked_of w list ≡ Some n → (bad_list w list ≡ false) × (n ≡ next_from w.t0 (spans_of list))
   unfolding worked_of
   told-good n h = (told-by (bad_list w list) (next_from w.t0 (spans_of list))).1 n h
+
+-- and what `ok_or` makes of it
+pub or_bad : {fault r : Fault} (o : Option ℕ) → ok_or o fault ≡ Err r → (o ≡ None) × (r ≡ fault)
+or_bad None h = (refl, cc)
+or_bad (Some n) h = let z : ◌≡◌ {A = ℕ} 0 1 = cc in absurd (omega arith)
+
+pub or-good : (fault : Fault) {n : ℕ} (o : Option ℕ) → ok_or o fault ≡ Ok n → o ≡ Some n
+or-good fault None h = let z : ◌≡◌ {A = ℕ} 0 1 = cc in absurd (omega arith)
+or-good fault (Some k) h = cc
 
 -- ---- a piece that is appended
 
@@ -129,15 +137,15 @@ good-append w list piece lent good h =
 -- ---- the answer of an admitted job
 
 module _ (w : Window) (room : ℕ) (bad : Window → Bool) where
-  pub answer-short : room < 16 * days_of w → SummaryRoom ≡ totals_by (Admitted w) room bad
+  pub answer-short : room < 16 * days_of w → Err SummaryRoom ≡ totals_by (Ok w) room bad
   unfolding totals_by short_room
   answer-short h = rw (lt-ltb room (16 * days_of w) h) refl
 
-  pub answer_bad : 16 * days_of w ≤ room → bad w ≡ true → BadList ≡ totals_by (Admitted w) room bad
+  pub answer_bad : 16 * days_of w ≤ room → bad w ≡ true → Err BadList ≡ totals_by (Ok w) room bad
   unfolding totals_by short_room
   answer_bad h b = rw (le-ltb room (16 * days_of w) h, b) refl
 
-  pub answer-written : {n : ℕ} → n ≡ days_of w → 16 * days_of w ≤ room → bad w ≡ false → Written n ≡ totals_by (Admitted w) room bad
+  pub answer-written : {n : ℕ} → n ≡ days_of w → 16 * days_of w ≤ room → bad w ≡ false → Ok n ≡ totals_by (Ok w) room bad
   unfolding totals_by short_room
   answer-written e h b = rw (le-ltb room (16 * days_of w) h, b, e) refl
 
@@ -149,12 +157,12 @@ module _ (s lent : List ℕ) (bad : Window → Bool) (new : Window → List ℕ)
   answer = totals_by (admission_of s) (length lent) bad
 
   -- the job's own refusal leaves every byte
-  pub away : (r : Refusal) → admission_of s ≡ TurnedAway r → (Job r ≡ answer) × (lent ≡ left_by answer (new (window_of s)) lent)
+  pub away : (r : Refusal) → admission_of s ≡ Err r → (Err (Job r) ≡ answer) × (lent ≡ left_by answer (new (window_of s)) lent)
   unfolding totals_by
   away r h = rw h (refl, refl)
 
   -- an admitted job is answered by its window
-  pub let_in : (w : Window) (t : Totals) (after : List ℕ) → admission_of s ≡ Admitted w → t ≡ totals_by (Admitted w) (length lent) bad → after ≡ left_by t (new w) lent → (t ≡ answer) × (after ≡ left_by answer (new (window_of s)) lent)
+  pub let_in : (w : Window) (t : Totals) (after : List ℕ) → admission_of s ≡ Ok w → t ≡ totals_by (Ok w) (length lent) bad → after ≡ left_by t (new w) lent → (t ≡ answer) × (after ≡ left_by answer (new (window_of s)) lent)
   let_in w t after h told left =
       let own : w ≡ window_of s = (admitted_good s h).0 in
       (told ∙ rw h refl, left ∙ rw (own, told, h) refl)

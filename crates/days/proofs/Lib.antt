@@ -7,6 +7,7 @@ pub mod Records
 pub mod Updates
 pub mod Adding
 pub mod Sames
+pub mod Pieces
 pub mod Working
 pub mod Longer
 pub mod Cases

@@ -6,27 +6,17 @@ use mathlib.Core.List.{List, [], ◌∷◌, ◌++◌}
 use native.Mathlib.Omega.{arith}
 use borrow.Author.Tests.{eqb-true, eqb-false, not-false, eq-eqb, ne_eqb}
 use lib.Dec.{eqb}
-use lib.ListN.{length, drop, length-append, length-drop}
-use lib.Seq.{sets, take-append-le, drop-append-le, drop-append-add}
-use Rattle.words.specs.Little.{read_of}
+use lib.ListN.{length, length-append}
+use lib.Seq.{sets}
 use Rattle.finder.specs.declared.Window.{Window}
 use Rattle.days.specs.Summary.{summary_of, updated}
 use Rattle.days.specs.Given.{span_at, spans_from, spans_of, bad_span, bad_spans, bad_list}
 use Rattle.days.specs.State.{next_from, Awaits}
 use Rattle.days.proofs.Bools.{neither}
 use Rattle.days.proofs.Orderly.{bad_one}
-use Rattle.days.proofs.Working.{spans-one, summary-set}
+use Rattle.days.proofs.Pieces.{read_left, read_right, spans-one}
+use Rattle.days.proofs.Working.{summary-set}
 use Rattle.days.proofs.Updates.{stands-room, afresh}
-
--- ---- reading in two parts
-
-read_left : (n : ℕ) (a b : List ℕ) (at : ℕ) → at + n ≤ length a → read_of n (a ++ b) at ≡ read_of n a at
-unfolding read_of
-read_left n a b at h = rw (drop-append-le at a b (omega arith), take-append-le n (drop at a) b (simp length-drop (omega arith))) refl
-
-read_right : (n : ℕ) (a b : List ℕ) (at k : ℕ) → k ≡ length a + at → read_of n (a ++ b) k ≡ read_of n b at
-unfolding read_of
-read_right n a b at k e = rw (e, drop-append-add a b at) refl
 
 -- ---- the intervals
 

@@ -13,7 +13,9 @@ use Rattle.interval.specs.declared.Interval.{Interval}
 use Rattle.interval.specs.Record.{record_bytes}
 use Rattle.interval.proofs.Laws.{length-record}
 use Rattle.geometry.specs.declared.Sight.{Sight}
+use Rattle.std.specs.Prelude.{Ok}
 use Rattle.finder.specs.declared.Window.{Window}
+use Rattle.finder.specs.declared.Found.{Found}
 use Rattle.finder.specs.Spans.{Span, span, list_of}
 use Rattle.finder.specs.Fits.{InOrder}
 use Rattle.finder.specs.Records.{interval_of, records_of, found_of}
@@ -21,14 +23,12 @@ use Rattle.finder.proofs.Records.{length-records}
 use Rattle.finder.proofs.Listed.{list_in_order}
 use Rattle.job.specs.Table.{window_of}
 use Rattle.job.specs.Outcome.{answers_in, sights_in, outcome_of, list_after_of}
-use Rattle.job.specs.declared.Outcome.TheVariants.{Listed}
 use Rattle.job.proofs.Exactly.{listed-good, listed-intervals}
 use Rattle.job.proofs.Written.{records-then_rest}
 use Rattle.job.proofs.Admits.{listed_admitted}
 use Rattle.days.specs.Days.{days_of}
 use Rattle.days.specs.Given.{span_at, spans_from, spans_of, bad_list}
 use Rattle.days.specs.Totals.{short_room, totals_by, totals_of}
-use Rattle.days.specs.declared.Totals.TheVariants.{Written}
 use Rattle.days.proofs.Orderly.{in_order_good}
 
 -- ---- intervals read back
@@ -64,7 +64,7 @@ module _ (g : ℕ → Sight) (w : Window) (high : ℕ) (fits : high < 256 ^ 8) w
 
 -- ---- the list that a job leaves
 
-module _ (s old : List ℕ) {n k : ℕ} (h : outcome_of s (length old) ≡ Listed n k) where
+module _ (s old : List ℕ) {found : Found} (h : outcome_of s (length old) ≡ Ok found) where
   abbrev w : Window
   w = window_of s
 
@@ -72,13 +72,13 @@ module _ (s old : List ℕ) {n k : ℕ} (h : outcome_of s (length old) ≡ Liste
   l = list_of (answers_in s) w
 
   abbrev bytes : List ℕ
-  bytes = take (24 * n) (list_after_of s old)
+  bytes = take (24 * found.intervals) (list_after_of s old)
 
   bytes_are : bytes ≡ records_of (sights_in s) w l
   unfolding found_of
   bytes_are =
-      let long : length (records_of (sights_in s) w l) ≡ 24 * n = length-records (sights_in s) w l ∙ ap (λ (m : ℕ). 24 * m) (sym (listed-intervals s (length old) h)) in
-      ap (take (24 * n)) (records-then_rest s old h) ∙ take_at (records_of (sights_in s) w l) (drop (24 * n) old) (24 * n) long
+      let long : length (records_of (sights_in s) w l) ≡ 24 * found.intervals = length-records (sights_in s) w l ∙ ap (λ (m : ℕ). 24 * m) (sym (listed-intervals s (length old) h)) in
+      ap (take (24 * found.intervals)) (records-then_rest s old h) ∙ take_at (records_of (sights_in s) w l) (drop (24 * found.intervals) old) (24 * found.intervals) long
 
   order : InOrder w.t0 l w.t1
   order = list_in_order w (listed-good s (length old) h) (answers_in s)
@@ -92,6 +92,6 @@ module _ (s old : List ℕ) {n k : ℕ} (h : outcome_of s (length old) ≡ Liste
       let whole : length bytes % 24 ≡ 0 = omega (arith, ap length bytes_are, length-records (sights_in s) w l) in
       rw (eq-eqb (length bytes % 24) 0 whole, ours_spans) (in_order_good w.t0 w.t1 l order)
 
-  pub ours_accepted : (room : ℕ) → 16 * days_of w ≤ room → totals_of s bytes room ≡ Written (days_of w)
+  pub ours_accepted : (room : ℕ) → 16 * days_of w ≤ room → totals_of s bytes room ≡ Ok (days_of w)
   unfolding totals_of totals_by short_room
   ours_accepted room enough = rw (listed_admitted s (length old) h, le-ltb room (16 * days_of w) enough, ours_good) refl

@@ -18,7 +18,9 @@ use lib.Seq.{take_at}
 use native.Mathlib.Omega.{arith}
 use Rattle.words.specs.Little.{read_of}
 use Rattle.refusal.specs.declared.Refusal.{Refusal}
+use Rattle.std.specs.Prelude.{Ok, Err}
 use Rattle.finder.specs.declared.Window.{Window}
+use Rattle.finder.specs.declared.Found.{Found}
 use Rattle.finder.specs.Samples.{last_end}
 use Rattle.finder.specs.Spans.{Span, list_of}
 use Rattle.finder.specs.Fits.{InOrder}
@@ -26,16 +28,13 @@ use Rattle.finder.specs.Records.{room_for_any}
 use Rattle.job.specs.Table.{window_of}
 use Rattle.job.specs.Outcome.{answers_in, outcome_of, list_after_of}
 use Rattle.job.specs.Admission.{admission_of}
-use Rattle.job.specs.declared.Admission.TheVariants.{Admitted}
-use Rattle.job.specs.declared.Outcome.TheVariants.{Listed, Refused}
 use Rattle.job.proofs.Admits.{admitted_good, away-exactly}
 use Rattle.days.specs.Days.{day_of, days_between, days_of, most_days}
 use Rattle.days.specs.Counts.{touches, touching, instants_in, sum_from, instants_listed}
 use Rattle.days.specs.Summary.{day_record, summary_of}
 use Rattle.days.specs.Given.{span_at, spans_of, bad_list, bad_append}
-use Rattle.days.specs.Totals.{numbers_of, totals_of, append_of, left_by, summary_after_of, append_after}
-use Rattle.days.specs.declared.Totals.{Totals}
-use Rattle.days.specs.declared.Totals.TheVariants.{Written, Job, SummaryRoom, BadList}
+use Rattle.days.specs.Totals.{Totals, numbers_of, totals_of, append_of, left_by, summary_after_of, append_after}
+use Rattle.days.specs.declared.Fault.TheVariants.{Job, SummaryRoom, BadList}
 use Rattle.days.proofs.Answered as answered
 use Rattle.days.proofs.Orderly.{in_order_good, good_in_order}
 use Rattle.days.proofs.Touched.{touch_yes, touched}
@@ -82,10 +81,8 @@ append_requires_nothing κs a = tt
 
 -- where nothing is written every byte is kept
 kept : (t : Totals) → ((numbers_of t).refusal ≡ 0 → ⊥) → (a b : List ℕ) → left_by t a b ≡ b
-kept (Written days) h a b = absurd (h refl)
-kept (Job r) h a b = refl
-kept SummaryRoom h a b = refl
-kept BadList h a b = refl
+kept (Ok days) h a b = absurd (h refl)
+kept (Err fault) h a b = refl
 
 -- In what follows, of one call: the window, and the intervals of the list.
 module _ (s list old : List ℕ) (t : Totals) (new : List ℕ) (call : Summary s list old t new) where
@@ -98,7 +95,7 @@ module _ (s list old : List ℕ) (t : Totals) (new : List ℕ) (call : Summary s
   -- ---- 1. The refusals, in their order
 
   -- the job's own comes first, and it is the one that its list is refused for where there is room for any
-  pub job-exactly : (r : Refusal) → (t ≡ Job r) ↔ (outcome_of s room_for_any ≡ Refused r)
+  pub job-exactly : (r : Refusal) → (t ≡ Err (Job r)) ↔ (outcome_of s room_for_any ≡ Err r)
   unfolding totals_of
   job-exactly r =
       let first = answered.job-exactly s (length old) (λ v. bad_list v list) r in
@@ -106,31 +103,31 @@ module _ (s list old : List ℕ) (t : Totals) (new : List ℕ) (call : Summary s
       rw call.answer (λ h. away.0 (first.0 h), λ h. first.1 (away.1 h))
 
   -- 11 exactly if the job is accepted by every row but 9 and the room is short of 16 bytes a day
-  pub room-exactly : (t ≡ SummaryRoom) ↔ ((admission_of s ≡ Admitted w) × (length old < 16 * days_of w))
+  pub room-exactly : (t ≡ Err SummaryRoom) ↔ ((admission_of s ≡ Ok w) × (length old < 16 * days_of w))
   unfolding totals_of
   room-exactly = rw call.answer (answered.room-exactly s (length old) (λ v. bad_list v list))
 
   -- 12 exactly if the job is accepted, there is room, and the list is bad
-  pub list-exactly : (t ≡ BadList) ↔ ((admission_of s ≡ Admitted w) × (16 * days_of w ≤ length old) × (bad_list w list ≡ true))
+  pub list-exactly : (t ≡ Err BadList) ↔ ((admission_of s ≡ Ok w) × (16 * days_of w ≤ length old) × (bad_list w list ≡ true))
   unfolding totals_of
   list-exactly = rw call.answer (answered.list-exactly s (length old) (λ v. bad_list v list))
 
   -- a summary exactly if the job is accepted, there is room, and the list is good; and then of as many days as the window touches
-  pub written-exactly : (n : ℕ) → (t ≡ Written n) ↔ ((admission_of s ≡ Admitted w) × (16 * days_of w ≤ length old) × (bad_list w list ≡ false) × (n ≡ days_of w))
+  pub written-exactly : (n : ℕ) → (t ≡ Ok n) ↔ ((admission_of s ≡ Ok w) × (16 * days_of w ≤ length old) × (bad_list w list ≡ false) × (n ≡ days_of w))
   unfolding totals_of
   written-exactly n = rw call.answer (answered.written-exactly s (length old) (λ v. bad_list v list) n)
 
   -- 11 never where 512 bytes are lent: a window touches at most 32 days
-  pub room_enough : 16 * most_days ≤ length old → t ≡ SummaryRoom → ⊥
+  pub room_enough : 16 * most_days ≤ length old → t ≡ Err SummaryRoom → ⊥
   room_enough enough h =
       let short = room-exactly.0 h in
       absurd (omega (arith, short.1, days-most w (admitted_good s short.0).1))
 
   -- both return field 0, number 0.0, whose bits are 0, and 0 days
-  pub room_returns : t ≡ SummaryRoom → numbers_of t ≡ record { refusal = 11; field = 0; bits = 0; days = 0 }
+  pub room_returns : t ≡ Err SummaryRoom → numbers_of t ≡ record { refusal = 11; field = 0; bits = 0; days = 0 }
   room_returns h = ap numbers_of h
 
-  pub list_returns : t ≡ BadList → numbers_of t ≡ record { refusal = 12; field = 0; bits = 0; days = 0 }
+  pub list_returns : t ≡ Err BadList → numbers_of t ≡ record { refusal = 12; field = 0; bits = 0; days = 0 }
   list_returns h = ap numbers_of h
 
   -- and the lent bytes stay
@@ -140,16 +137,16 @@ module _ (s list old : List ℕ) (t : Totals) (new : List ℕ) (call : Summary s
 
   -- ---- 2. The summary, instant by instant
 
-  module _ {n : ℕ} (h : t ≡ Written n) where
+  module _ {n : ℕ} (h : t ≡ Ok n) where
     -- what was found before it was written
-    found : (admission_of s ≡ Admitted w) × (16 * days_of w ≤ length old) × (bad_list w list ≡ false) × (n ≡ days_of w)
+    found : (admission_of s ≡ Ok w) × (16 * days_of w ≤ length old) × (bad_list w list ≡ false) × (n ≡ days_of w)
     found = (written-exactly n).0 h
 
     -- it stands from byte 0 on, and every byte behind it is as it was
     pub summary-then_rest : new ≡ summary_of w l ++ drop (16 * n) old
     unfolding summary_after_of
     summary-then_rest =
-        let told : totals_of s list (length old) ≡ Written n = sym call.answer ∙ h in
+        let told : totals_of s list (length old) ≡ Ok n = sym call.answer ∙ h in
         call.bytes ∙ rw (told, found.3) (summary-set w l old found.1)
 
     -- record i is that of the i-th day that the window touches: how many intervals have an instant in it, and how many instants of it lie in one
@@ -185,12 +182,12 @@ good-exactly w list = (λ h. (list-whole w list h, good_in_order w.t0 w.t1 (span
 
 -- ---- 3. A list of ours is accepted, and its summary is that of the list
 
-module _ (s old : List ℕ) {n k : ℕ} (h : outcome_of s (length old) ≡ Listed n k) where
+module _ (s old : List ℕ) {found : Found} (h : outcome_of s (length old) ≡ Ok found) where
   -- the bytes of its records
   abbrev made : List ℕ
-  made = take (24 * n) (list_after_of s old)
+  made = take (24 * found.intervals) (list_after_of s old)
 
-  pub ours_accepted : (lent : List ℕ) (t : Totals) (new : List ℕ) → Summary s made lent t new → 16 * days_of (window_of s) ≤ length lent → t ≡ Written (days_of (window_of s))
+  pub ours_accepted : (lent : List ℕ) (t : Totals) (new : List ℕ) → Summary s made lent t new → 16 * days_of (window_of s) ≤ length lent → t ≡ Ok (days_of (window_of s))
   ours_accepted lent t new call enough = call.answer ∙ ours.ours_accepted s old h (length lent) enough
 
   pub ours_summed : (lent : List ℕ) (t : Totals) (new : List ℕ) → Summary s made lent t new → 16 * days_of (window_of s) ≤ length lent
@@ -206,27 +203,27 @@ module _ (s list piece old : List ℕ) (t : Totals) (new : List ℕ) (call : App
   append-keeps h = call.bytes ∙ kept (append_of s list piece old) (λ e. h (ap (λ (x : Totals). (numbers_of x).refusal) call.answer ∙ e)) _ _
 
   -- the refusals come in the same order; 12 is for the list, the piece and the summary
-  pub append-job_exactly : (r : Refusal) → (t ≡ Job r) ↔ (outcome_of s room_for_any ≡ Refused r)
+  pub append-job_exactly : (r : Refusal) → (t ≡ Err (Job r)) ↔ (outcome_of s room_for_any ≡ Err r)
   unfolding append_of
   append-job_exactly r =
       let first = answered.job-exactly s (length old) (λ v. bad_append v list piece (take (16 * days_of v) old)) r in
       let away = away-exactly s r in
       rw call.answer (λ h. away.0 (first.0 h), λ h. first.1 (away.1 h))
 
-  pub append-room_exactly : (t ≡ SummaryRoom) ↔ ((admission_of s ≡ Admitted (window_of s)) × (length old < 16 * days_of (window_of s)))
+  pub append-room_exactly : (t ≡ Err SummaryRoom) ↔ ((admission_of s ≡ Ok (window_of s)) × (length old < 16 * days_of (window_of s)))
   unfolding append_of
   append-room_exactly = rw call.answer (answered.room-exactly s (length old) (λ v. bad_append v list piece (take (16 * days_of v) old)))
 
-  pub append-list_exactly : (t ≡ BadList) ↔ ((admission_of s ≡ Admitted (window_of s)) × (16 * days_of (window_of s) ≤ length old) × (bad_append (window_of s) list piece (take (16 * days_of (window_of s)) old) ≡ true))
+  pub append-list_exactly : (t ≡ Err BadList) ↔ ((admission_of s ≡ Ok (window_of s)) × (16 * days_of (window_of s) ≤ length old) × (bad_append (window_of s) list piece (take (16 * days_of (window_of s)) old) ≡ true))
   unfolding append_of
   append-list_exactly = rw call.answer (answered.list-exactly s (length old) (λ v. bad_append v list piece (take (16 * days_of v) old)))
 
-  pub append-written_exactly : (n : ℕ) → (t ≡ Written n) ↔ ((admission_of s ≡ Admitted (window_of s)) × (16 * days_of (window_of s) ≤ length old) × (bad_append (window_of s) list piece (take (16 * days_of (window_of s)) old) ≡ false) × (n ≡ days_of (window_of s)))
+  pub append-written_exactly : (n : ℕ) → (t ≡ Ok n) ↔ ((admission_of s ≡ Ok (window_of s)) × (16 * days_of (window_of s) ≤ length old) × (bad_append (window_of s) list piece (take (16 * days_of (window_of s)) old) ≡ false) × (n ≡ days_of (window_of s)))
   unfolding append_of
   append-written_exactly n = rw call.answer (answered.written-exactly s (length old) (λ v. bad_append v list piece (take (16 * days_of v) old)) n)
 
-  module _ {n : ℕ} (h : t ≡ Written n) where
-    taken : (admission_of s ≡ Admitted (window_of s)) × (16 * days_of (window_of s) ≤ length old) × (bad_append (window_of s) list piece (take (16 * days_of (window_of s)) old) ≡ false) × (n ≡ days_of (window_of s))
+  module _ {n : ℕ} (h : t ≡ Ok n) where
+    taken : (admission_of s ≡ Ok (window_of s)) × (16 * days_of (window_of s) ≤ length old) × (bad_append (window_of s) list piece (take (16 * days_of (window_of s)) old) ≡ false) × (n ≡ days_of (window_of s))
     taken = (append-written_exactly n).0 h
 
     -- so the piece is one interval that awaits behind a good list

@@ -1,5 +1,5 @@
 -- The loop of `work_out`: whenever its test is reached the first k intervals are good and their summary stands in `own`.
-use Prim.Native.Nat.{ℕ, zero, suc, ◌+◌, ◌-◌, ◌*◌, ◌/◌, ◌%◌, ◌≤◌, ◌<◌}
+use Prim.Native.Nat.{ℕ, suc, ◌+◌, ◌-◌, ◌*◌, ◌/◌, ◌%◌, ◌≤◌, ◌<◌}
 use mathlib.Core.Path.{◌≡◌, refl, sym, ap, subst, ◌∙◌}
 use mathlib.Core.Bool.{true, false, not, true≢false}
 use mathlib.Core.List.{List, [], ◌∷◌, ◌++◌, append_assoc}
@@ -9,33 +9,19 @@ use borrow.Author.Tests.{eq-eqb, ne_eqb}
 use lib.Dec.{eqb}
 use lib.ListN.{length, take, drop}
 use lib.Seq.{sets, sets-eq, length-sets, take_at, drop_at}
+use Rattle.std.specs.Prelude.{Some, None}
 use Rattle.finder.specs.declared.Window.{Window}
-use Rattle.finder.specs.Spans.{Span, span}
+use Rattle.finder.specs.Spans.{Span}
 use Rattle.days.specs.Days.{day_of, days_of}
 use Rattle.days.specs.Counts.{touching, instants_in}
 use Rattle.days.specs.Summary.{day_record, records_from, summary_of}
 use Rattle.days.specs.Given.{span_at, spans_from, spans_of, bad_span, bad_spans, bad_list}
 use Rattle.days.specs.State.{next_from, HasRoom, Awaits, Updated, worked_of, SummedUp}
-use Rattle.days.specs.declared.Worked.TheVariants.{Ordered, Bad}
 use Rattle.days.proofs.Bools.{or-true}
+use Rattle.days.proofs.Pieces.{spans-split, spans-one}
 use Rattle.days.proofs.Orderly.{bad_append_lem, bad_one, next_one}
 use Rattle.days.proofs.Records.{length-day, length-days, length-summary, days-add}
 use Rattle.days.proofs.Updates.{afresh}
-
--- ---- intervals of a list's bytes
-
-spans-add : (list : List ℕ) (k m n : ℕ) → spans_from list k (m + n) ≡ spans_from list k m ++ spans_from list (k + m) n
-unfolding spans_from
-spans-add list k zero n = let e : k + 0 ≡ k = omega arith in let z : 0 + n ≡ n = omega arith in rw (e, z) refl
-spans-add list k (suc m) n =
-    let more : suc m + n ≡ suc (m + n) = omega arith in
-    let e : suc k + m ≡ k + suc m = omega arith in
-    rw more (ap (λ (l : List Span). span_at list k ∷ l) (spans-add list (suc k) m n) ∙ rw e refl)
-
--- one more
-pub spans-one : (list : List ℕ) (k : ℕ) → spans_from list 0 (k + 1) ≡ spans_from list 0 k ++ span_at list k ∷ []
-unfolding spans_from
-spans-one list k = let e : 0 + k ≡ k = omega arith in spans-add list 0 k 1 ∙ rw e refl
 
 -- ---- a summary and what stands behind it
 
@@ -79,37 +65,36 @@ module _ {w : Window} {list own₀ own : List ℕ} {next k : ℕ} (room : HasRoo
   abbrev so_far : List Span
   so_far = spans_from list 0 k
 
-  module _ {first last : ℕ} (is : span first last ≡ span_at list k) where
+  module _ {s : Span} (is : s ≡ span_at list k) where
     -- a good interval awaits
-    pub work_awaits : bad_span next w.t1 (span first last) ≡ false → Awaits w so_far (span first last) own
+    pub work_awaits : bad_span next w.t1 s ≡ false → Awaits w so_far s own
     work_awaits good =
         record {
           good = room.good;
           before = g.before;
-          next = subst (λ (n : ℕ). bad_span n w.t1 (span first last) ≡ false) g.begins good;
+          next = subst (λ (n : ℕ). bad_span n w.t1 s ≡ false) g.begins good;
           stands = ap (take (16 * days_of w)) g.stands ∙ take_at (summary_of w so_far) (drop (16 * days_of w) own₀) (16 * days_of w) (length-summary w so_far);
         }
 
     -- and is one more
-    pub work_more : {own' : List ℕ} → k < length list / 24 → bad_span next w.t1 (span first last) ≡ false → Updated w (span first last) own own' → Working w list own₀ own' (last + 2) (k + 1)
+    pub work_more : {own' : List ℕ} → k < length list / 24 → bad_span next w.t1 s ≡ false → Updated w s own own' → Working w list own₀ own' (s.last + 2) (k + 1)
     work_more more good put =
         let a = work_awaits good in
         let rest : drop (16 * days_of w) own ≡ drop (16 * days_of w) own₀ = ap (drop (16 * days_of w)) g.stands ∙ drop_at (summary_of w so_far) (drop (16 * days_of w) own₀) (16 * days_of w) (length-summary w so_far) in
         record {
           most = omega arith;
-          before = rw (spans-one list k, ← is, bad_one w.t0 w.t1 so_far (span first last), a.before, a.next) refl;
-          begins = rw (spans-one list k, ← is, next_one w.t0 so_far (span first last)) refl;
-          stands = put so_far a ∙ afresh w so_far (span first last) own a ∙ rw (spans-one list k, ← is, rest) refl;
+          before = rw (spans-one list k, ← is, bad_one w.t0 w.t1 so_far s, a.before, a.next) refl;
+          begins = rw (spans-one list k, ← is, next_one w.t0 so_far s) refl;
+          stands = put so_far a ∙ afresh w so_far s own a ∙ rw (spans-one list k, ← is, rest) refl;
         }
 
     -- a bad one is bad in the whole list
-    pub work_bad : k < length list / 24 → bad_span next w.t1 (span first last) ≡ true → bad_list w list ≡ true
+    pub work_bad : k < length list / 24 → bad_span next w.t1 s ≡ true → bad_list w list ≡ true
     unfolding bad_list spans_of spans_from bad_spans
     work_bad more bad =
         let rest = length list / 24 - (k + 1) in
         let n : length list / 24 ≡ k + suc rest = omega arith in
-        let here : 0 + k ≡ k = omega arith in
-        let parts : spans_from list 0 (length list / 24) ≡ so_far ++ (span_at list k ∷ spans_from list (suc k) rest) = ap (spans_from list 0) n ∙ spans-add list 0 k (suc rest) ∙ ap (λ (j : ℕ). so_far ++ spans_from list j (suc rest)) here in
+        let parts : spans_from list 0 (length list / 24) ≡ so_far ++ (span_at list k ∷ spans_from list (suc k) rest) = ap (spans_from list 0) n ∙ spans-split list k (suc rest) in
         let worst : bad_span (next_from w.t0 so_far) w.t1 (span_at list k) ≡ true = rw (is, g.begins) at bad in
         rw (parts, bad_append_lem w.t0 w.t1 so_far (span_at list k ∷ spans_from list (suc k) rest), worst, or-true (bad_spans w.t0 w.t1 so_far)) (or-true (not (eqb (length list % 24) 0)))
 
@@ -125,12 +110,12 @@ module _ {w : Window} {list own₀ own : List ℕ} {next k : ℕ} (g : Working w
   unfolding bad_list spans_of
   work_good = rw (eq-eqb (length list % 24) 0 whole, ← all, g.before) refl
 
-  pub work_done : (entry : List ℕ) → HasRoom w entry → drop (16 * days_of w) own₀ ≡ drop (16 * days_of w) entry → (Ordered next ≡ worked_of w list) × SummedUp w list entry own
+  pub work_done : (entry : List ℕ) → HasRoom w entry → drop (16 * days_of w) own₀ ≡ drop (16 * days_of w) entry → (Some next ≡ worked_of w list) × SummedUp w list entry own
   unfolding worked_of spans_of
   work_done entry room behind =
       (rw (work_good, ← all, g.begins) refl, λ _. g.stands ∙ rw (all, behind) (sym (summary-set w (spans_from list 0 (length list / 24)) entry room.room)))
 
 -- a bad list
-pub worked_bad : (w : Window) (list own₀ own : List ℕ) → bad_list w list ≡ true → (Bad ≡ worked_of w list) × SummedUp w list own₀ own
+pub worked_bad : (w : Window) (list own₀ own : List ℕ) → bad_list w list ≡ true → (None ≡ worked_of w list) × SummedUp w list own₀ own
 unfolding worked_of
 worked_bad w list own₀ own bad = (rw bad refl, λ good. absurd (true≢false (sym bad ∙ good)))

@@ -5,7 +5,6 @@ ghost use Rattle.std.specs.Prelude.{◌*◌, ◌≡◌, not, [], length, take, O
 ghost use Rattle.std.proofs.lemmas.List.Edits.{sets};
 ghost use Rattle.words.specs.Little.{Holds};
 ghost use Rattle.finder.specs.Samples.{Good};
-ghost use Rattle.finder.specs.Spans.{span};
 ghost use Rattle.days.specs.Days.{days_of};
 ghost use Rattle.days.specs.declared.Fault.TheVariants.{Job};
 ghost use Rattle.days.specs.Counts.{instants_under};
@@ -16,6 +15,7 @@ ghost use Rattle.days.specs.Totals.{numbers_of, totals_by, left_by, totals_of, a
 
 use finder::Window;
 use refusal::Refusal;
+use std::marker::Model;
 use words::Word;
 
 // Why no day was written: the job's own refusal, 11 or 12.
@@ -34,13 +34,31 @@ impl From<Refusal> for Fault {
     }
 }
 
-// The refusal's number or 0, the field that offends or 0, the bits of the number that is handed back, and how many days were written.
+// The refusal's number or 0, the field that offends or 0, the bits of the number that is handed back, and how many days were written: what the
+// door's answer in C and the program's record hold.
 #[derive(Clone, Copy)]
 pub struct Numbers {
     pub refusal: u32,
     pub field: u32,
     pub bits: u64,
     pub days: usize,
+}
+
+// An interval by its first and its last instant, which both belong to it.
+#[derive(Clone, Copy)]
+struct Span {
+    first: u64,
+    last: u64,
+}
+
+impl Model for Span {
+    ghost use Rattle.finder.specs.Spans.{Span, span};
+
+    ghost Value = { Span };
+
+    ghost view = { λ s. span s.first s.last };
+
+    ghost inverse = { λ s. record { first = s.first; last = s.last } };
 }
 
 // A day, in ms.
@@ -97,17 +115,35 @@ fn days(w: Window) -> usize
     (w.t1 / DAY - w.t0 / DAY + 1) as usize
 }
 
-// How many instants of the interval are in day d.
-fn inside(first: u64, last: u64, d: u64) -> u64
-    requires { Under (span first last) d }
-    ensures { result ≡ instants_under (span first last) d }
-{
-    let begins = d * DAY;
-    let end = (last + 1).min(begins + DAY);
-    if first < begins {
-        end - begins
-    } else {
-        end - first
+// ---- an interval
+
+impl Span {
+    // The one in an interval's record; its job number and flags are not looked at.
+    fn read(piece: &[u8]) -> Span
+        requires { length piece.now ≡ 24 }
+        ensures { result ≡ span_at piece.now 0 }
+    {
+        Span {
+            first: u64::read(piece, 8),
+            last: u64::read(piece, 16),
+        }
+    }
+
+    // Whether it may not stand where `low` is the least first, in a window that ends at `high`.
+    fn is_bad(self, low: u64, high: u64) -> bool
+        ensures { result ≡ bad_span low high self }
+    {
+        self.last < self.first || self.first < low || high < self.last
+    }
+
+    // How many of its instants are in day d.
+    fn inside(self, d: u64) -> u64
+        requires { Under self d }
+        ensures { result ≡ instants_under self d }
+    {
+        let begins = d * DAY;
+        let end = (self.last + 1).min(begins + DAY);
+        end - self.first.max(begins)
     }
 }
 
@@ -135,32 +171,23 @@ fn blank(w: Window, out: &mut [u8])
 }
 
 // One interval more: the record of each day that it touches has one more, and its instants there.
-fn add(w: Window, out: &mut [u8], first: u64, last: u64)
-    requires { AwaitsSome w (span first last) out.old }
-    ensures { Updated w (span first last) out.old out.new }
+fn add(w: Window, out: &mut [u8], s: Span)
+    requires { AwaitsSome w s out.old }
+    ensures { Updated w s out.old out.new }
 {
     let start = w.t0 / DAY;
-    for d in first / DAY..last / DAY + 1 {
+    for d in s.first / DAY..=s.last / DAY {
         let at = DAY_RECORD * ((d - start) as usize);
         let intervals = u32::read(out, at + 4) + 1;
-        let instants = u64::read(out, at + 8) + inside(first, last, d);
+        let instants = u64::read(out, at + 8) + s.inside(d);
         put_day(out, at, d as u32, intervals, instants);
     }
 }
 
 // ---- what is given
 
-// An interval that may not stand where `low` is the least first, in a window that ends at `high`.
-fn bad_span(low: u64, high: u64, first: u64, last: u64) -> bool
-    ensures { result ≡ bad_span low high (span first last) }
-{
-    if last < first {
-        return true;
-    }
-    first < low || high < last
-}
-
-// The list is gone through once: each interval is looked at, and added to the summary in `own`. Of a good list it tells where an interval behind it may begin.
+// The list is gone through once: each interval is looked at, and added to the summary in `own`. Of a good list it tells where an interval
+// behind it may begin.
 fn work_out(w: Window, list: &[u8], own: &mut [u8]) -> Option<u64>
     requires { HasRoom w own.old }
     ensures value { result ≡ worked_of w list.now }
@@ -171,14 +198,13 @@ fn work_out(w: Window, list: &[u8], own: &mut [u8]) -> Option<u64>
     }
     blank(w, own);
     let mut next = w.t0;
-    for span in list.chunks_exact(INTERVAL) {
-        let first = u64::read(span, 8);
-        let last = u64::read(span, 16);
-        if bad_span(next, w.t1, first, last) {
+    for piece in list.chunks_exact(INTERVAL) {
+        let s = Span::read(piece);
+        if s.is_bad(next, w.t1) {
             return None;
         }
-        add(w, own, first, last);
-        next = last + 2;
+        add(w, own, s);
+        next = s.last + 2;
     }
     Some(next)
 }
@@ -193,10 +219,7 @@ fn follows(w: Window, list: &[u8], piece: &[u8], summary: &[u8]) -> bool
     let Some(next) = work_out(w, list, &mut own) else {
         return false;
     };
-    if piece.len() != INTERVAL {
-        return false;
-    }
-    if bad_span(next, w.t1, u64::read(piece, 8), u64::read(piece, 16)) {
+    if piece.len() != INTERVAL || Span::read(piece).is_bad(next, w.t1) {
         return false;
     }
     summary == &own[..used]
@@ -244,7 +267,7 @@ fn append_in(w: Window, list: &[u8], piece: &[u8], out: &mut [u8]) -> Result<usi
     if !follows(w, list, piece, &out[..used]) {
         return Err(Fault::BadList);
     }
-    add(w, out, u64::read(piece, 8), u64::read(piece, 16));
+    add(w, out, Span::read(piece));
     Ok(n)
 }
 

@@ -3,7 +3,7 @@ use Prim.Native.Nat.{ℕ, suc, ◌+◌, ◌*◌}
 use mathlib.Core.Path.{◌≡◌, refl, sym, ap, ◌∙◌}
 use mathlib.Core.Logic.{◌≢◌}
 use mathlib.Core.List.{List, [], ◌∷◌, append-nil}
-use mathlib.Core.Bool.{Bool, true, false, cond, not, beq, true≢false}
+use mathlib.Core.Bool.{Bool, true, false, not, beq, true≢false}
 use native.Mathlib.Omega.{arith}
 use lib.ListN.{length}
 use Rattle.std.specs.Prelude.{Option, Some, None, is_some}
@@ -14,12 +14,12 @@ use Rattle.finder.specs.declared.Begun.{Begun}
 use Rattle.finder.specs.declared.Found.{Found}
 use Rattle.finder.specs.declared.State.{State}
 use Rattle.finder.specs.declared.Window.{Window}
-use Rattle.finder.specs.Spans.{Span, span, edge, closed_in, ended}
+use Rattle.finder.specs.Spans.{span, edge, closed_in, ended}
 use Rattle.finder.specs.Asked.{middles_in}
 use Rattle.finder.specs.Flags.{differing, first_flags, last_flags, flags_of}
 use Rattle.finder.specs.Records.{interval_of, records_of, written}
 use Rattle.finder.specs.State.{Along, AtEnd, Turned, RoomFor, Flagged, was_of, first_in, first_of, opened, closed_out, advanced, finished}
-use Rattle.finder.proofs.OneStep.{beq_refl, beq_true, closed_same, first-same, closed_ends, first_ends, closed_begins, first-begins, middles-same, middles-differ}
+use Rattle.finder.proofs.OneStep.{beq_refl, beq_true, closed_same, first-same, closed_ends, closed_begins, first-begins, middles-same, middles-differ}
 use Rattle.finder.proofs.Edged.{Edged, edged}
 use Rattle.finder.proofs.Flags.{bits_most, first-most, last_cut, first-behind, last-before}
 
@@ -36,10 +36,10 @@ record_is : (g : ℕ → Sight) (w : Window) (o : Begun) (count last flags : ℕ
 unfolding write_of records_of interval_of flags_of
 record_is g w o count last flags p q out = rw (p, q, append-nil)
 
--- ---- what is open
+-- ---- what is open behind a sample
 
 module _ (g : ℕ → Sight) (w : Window) where
-  -- after a yes
+  -- something is open exactly after a yes
   pub opened-was : (told : Bool) (first : ℕ) → is_some (opened g w told first) ≡ told
   opened-was true first = refl
   opened-was false first = refl
@@ -53,6 +53,7 @@ module _ (g : ℕ → Sight) (w : Window) where
   opened-flags true first o e = let same : o ≡ record { first = first; flags = first_flags g w first } = cc in rw same
   opened-flags false first o e = cc
 
+  -- and so are those of a state's
   pub begun-flags : (s : State) (told : Bool) (first : ℕ) → s.begun ≡ opened g w told first → (o : Begun) → s.begun ≡ Some o → o.flags ≡ first_flags g w o.first
   begun-flags s told first here o is = opened-flags told first o (sym is ∙ here)
 

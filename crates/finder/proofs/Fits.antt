@@ -3,7 +3,7 @@ use Prim.Native.Nat.{ℕ, suc, ◌+◌, ◌≤◌, ◌<◌}
 use mathlib.Core.Path.{◌≡◌, refl, sym, ◌∙◌}
 use mathlib.Core.Logic.{inl, inr}
 use mathlib.Core.List.{List, [], ◌∷◌, ◌++◌}
-use mathlib.Core.Bool.{Bool, true, false, ◌&&◌, true≢false}
+use mathlib.Core.Bool.{Bool, true, false, and-false, true≢false}
 use native.Mathlib.Omega.{arith}
 use lib.Dec.{leb}
 use lib.ListN.{length, get_or}
@@ -15,10 +15,6 @@ use Rattle.finder.specs.Fits.{Changes, Fits, InOrder, within, listed, Follows, R
 use Rattle.finder.specs.Fits.Fits.{shut, closes, stays, begins, ends}
 use Rattle.finder.proofs.OneStep.{closed_same, first-same, closed_ends, first_ends, closed_begins, first-begins}
 use Rattle.finder.proofs.Edged.{Edged, edged}
-
-and-false : (x : Bool) → (x && false) ≡ false
-and-false true = refl
-and-false false = refl
 
 -- the change between them
 changes : (f : ℕ → Bool) (a b : ℕ) {e : Edge} {x y : Bool} → Edged f a b e → f a ≡ x → f b ≡ y → Changes f x y a b e.low

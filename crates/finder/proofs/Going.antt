@@ -1,12 +1,12 @@
 -- The loop over the samples: at each turn what is counted and written, with what is still to come, is the whole list.
-use Prim.Native.Nat.{ℕ, zero, suc, ◌+◌, ◌-◌, ◌*◌, ◌≤◌, ◌<◌}
+use Prim.Native.Nat.{ℕ, suc, ◌+◌, ◌-◌, ◌*◌, ◌≤◌, ◌<◌}
 use mathlib.Core.Path.{◌≡◌, refl, sym, ap, ◌∙◌}
 use mathlib.Core.List.{List, [], ◌∷◌, ◌++◌}
 use mathlib.Core.Bool.{Bool, true, false}
 use Rattle.std.specs.Bool.{then_some}
 use native.Mathlib.Omega.{arith}
 use lib.ListN.{length, length-append}
-use Rattle.std.specs.Prelude.{Option, Some, None, is_some}
+use Rattle.std.specs.Prelude.{Option, is_some}
 use lib.Seq.{length-sets}
 use Rattle.geometry.specs.declared.Sight.{Sight}
 use Rattle.finder.specs.declared.Begun.{Begun}
@@ -16,7 +16,7 @@ use Rattle.finder.specs.Samples.{Good, steps_of, sample_at, samples_from, sample
 use Rattle.finder.specs.Spans.{Span, closed_in, first_after, ended, walk, list_of}
 use Rattle.finder.specs.Asked.{middles_in, asked_after, instants_of}
 use Rattle.finder.specs.Records.{records_of, written, found_of, room_of, HasRoom}
-use Rattle.finder.specs.State.{Sampled, next, Stretch, Along, AtEnd, Few, RoomFor, was_of, first_in, first_of, opened, advanced, finished}
+use Rattle.finder.specs.State.{next, Stretch, Along, AtEnd, Few, RoomFor, was_of, first_in, first_of, opened, advanced, finished}
 use Rattle.finder.proofs.Samples.{sample-next, sample-from, sample-first, sample-inside, sample-end, steps-fit}
 use Rattle.finder.proofs.Flags.{first_cut}
 use Rattle.finder.proofs.OneStep.{closed_same, first-same, closed_begins, first-begins}
@@ -28,7 +28,7 @@ use Rattle.finder.proofs.Counts.{list-most, instants-few}
 abbrev to-go : Window → ℕ → List ℕ
 to-go w i = samples_from w (suc i) (steps_of w - i)
 
--- at sample i
+-- at sample i: what is counted and written, with what is still to come, is the whole list
 pub record Going (f : ℕ → Bool) (g : ℕ → Sight) (w : Window) (out₀ out : List ℕ) (s : State) (i : ℕ) : Type 0 where
   pub most : i ≤ steps_of w
   pub here : s.at ≡ sample_at w i
@@ -51,6 +51,7 @@ walk-shut f x y a (b ∷ ts) no' = by (f b) refl (walk-shut f x y b ts)
         let same : f a ≡ f b = no' ∙ sym e in
         rw (closed_same f x a b same, closed_same f y a b same, first-same f x a b same, first-same f y a b same) (rest e)
 
+-- so it is enough to know the first of what is open
 walk-opened : (f : ℕ → Bool) (g : ℕ → Sight) (w : Window) (first a : ℕ) (ts : List ℕ) → walk f (first_in (opened g w (f a) first)) a ts ≡ walk f first a ts
 walk-opened f g w first a ts = by (f a) refl
   where
@@ -78,11 +79,8 @@ going_start f g w out₀ good begun e =
 
 module _ {f : ℕ → Bool} {g : ℕ → Sight} {w : Window} {out₀ : List ℕ} (good : Good w) {out : List ℕ} {s : State} {i : ℕ} (r : Going f g w out₀ out s i) where
   -- what one step supposes
-  going_inside : s.at ≤ w.t1
+  pub going_inside : s.at ≤ w.t1
   going_inside = rw r.here (sample-inside w i)
-
-  pub going_sampled : Sampled w s.at
-  going_sampled = record { good = good; inside = going_inside }
 
   answered : was_of s ≡ f s.at
   answered = ap is_some r.begun ∙ opened-was g w (f s.at) (first_of s)
@@ -95,7 +93,6 @@ module _ {f : ℕ → Bool} {g : ℕ → Sight} {w : Window} {out₀ : List ℕ}
       record {
         from = omega (arith, going_inside);
         near = omega (arith, good.short);
-        early = omega (arith, good.end);
         answered = answered;
       }
 

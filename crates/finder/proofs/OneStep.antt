@@ -2,7 +2,7 @@
 use Prim.Native.Nat.{ℕ, ◌≤◌}
 use mathlib.Core.Path.{◌≡◌, refl, sym}
 use mathlib.Core.List.{[], ◌∷◌}
-use mathlib.Core.Bool.{Bool, true, false, not, ◌&&◌, beq}
+use mathlib.Core.Bool.{Bool, true, false, beq, and-not_self, not-and_self}
 use native.Mathlib.Omega.{arith}
 use lib.ListN.{length}
 use Rattle.halving.specs.declared.Edge.{Edge}
@@ -22,24 +22,16 @@ beq_true true false e = sym e
 beq_true false true e = e
 beq_true false false e = refl
 
-and-not : (x : Bool) → (x && not x) ≡ false
-and-not true = refl
-and-not false = refl
-
-not-and : (x : Bool) → (not x && x) ≡ false
-not-and true = refl
-not-and false = refl
-
 -- ---- what a step closes and opens
 
 module _ (f : ℕ → Bool) (first a b : ℕ) where
   pub closed_same : f a ≡ f b → closed_in f first a b ≡ []
   unfolding closed_in
-  closed_same e = rw (e, and-not (f b))
+  closed_same e = rw (e, and-not_self)
 
   pub first-same : f a ≡ f b → first_after f first a b ≡ first
   unfolding first_after
-  first-same e = rw (e, not-and (f b))
+  first-same e = rw (e, not-and_self)
 
   pub closed_ends : f a ≡ true → f b ≡ false → closed_in f first a b ≡ span first (edge f a b).low ∷ []
   unfolding closed_in

@@ -1,15 +1,36 @@
 -- The samples of a window: each from the one before, in steps that are not too long, and t1 last.
-use Prim.Native.Nat.{ℕ, zero, suc, ◌+◌, ◌-◌, ◌≤◌}
+use Prim.Native.Nat.{ℕ, zero, suc, ◌+◌, ◌-◌, ◌*◌, ◌/◌, ◌%◌, ◌≤◌}
 use mathlib.Core.Path.{◌≡◌, refl, sym, ap, subst, ◌∙◌}
 use native.Mathlib.Omega.{arith}
 use native.Mathlib.Nat.{zero-add, div-add-mod', mod-lt, div-le_self, suc-mul}
 use lib.ListN.{length}
+use Rattle.std.specs.Prelude.{min}
+use Rattle.std.specs.Int.{div_ceil}
+use Rattle.std.proofs.lemmas.Nat.{div-mul-add}
 use Rattle.finder.specs.declared.Window.{Window}
-use Rattle.finder.specs.Samples.{last_end, longest_step, Good, steps_of, sample_at, samples_from, samples}
+use Rattle.finder.specs.Samples.{last_end, longest_step, Good, ceil_div, steps_of, sample_at, samples_from, samples}
 use Rattle.finder.specs.Fits.{Rising, Short, last_of}
 use Rattle.finder.specs.State.{next}
 
+-- std's division that rounds up
+ceil-is : (a b : ℕ) → 1 ≤ b → div_ceil a b ≡ ceil_div a b
+ceil-is a b some = by (a % b) refl
+  where
+    by : (r : ℕ) → a % b ≡ r → a / b + min 1 r ≡ (a + (b - 1)) / b
+    by zero e =
+        let parts : a + (b - 1) ≡ a / b * b + (b - 1) = omega (arith, div-add-mod' a b) in
+        let floor : (a + (b - 1)) / b ≡ a / b = rw parts (div-mul-add (a / b) b (b - 1) (omega arith)) in
+        omega arith
+    by (suc r) e =
+        let parts : a + (b - 1) ≡ suc (a / b) * b + r = rw suc-mul (omega (arith, div-add-mod' a b)) in
+        let floor : (a + (b - 1)) / b ≡ suc (a / b) = rw parts (div-mul-add (suc (a / b)) b r (omega (arith, mod-lt a some))) in
+        omega arith
+
 module _ (w : Window) where
+  pub steps_ceil : Good w → div_ceil (w.t1 - w.t0) w.step ≡ steps_of w
+  unfolding steps_of
+  steps_ceil good = ceil-is (w.t1 - w.t0) w.step good.some
+
   -- the sample after sample i
   pub sample-next : (i : ℕ) → next w (sample_at w i) ≡ sample_at w (suc i)
   unfolding sample_at

@@ -1,5 +1,5 @@
 -- One step of the finder, for the contracts of its private functions. No rule of document 01.
-use Rattle.std.specs.Prelude.{ℕ, suc, ◌+◌, ◌*◌, ◌≤◌, ◌<◌, min, ◌≡◌, List, Bool, cond, not, length, Option, Some, None, is_some}
+use Rattle.std.specs.Prelude.{ℕ, suc, ◌+◌, ◌*◌, ◌≤◌, ◌<◌, min, ◌≡◌, List, Bool, not, length, Option, Some, None, is_some}
 use Rattle.std.specs.Bool.{then_some}
 use Rattle.halving.specs.declared.Edge.{Edge}
 use Rattle.geometry.specs.declared.Sight.{Sight}
@@ -9,17 +9,12 @@ use Rattle.finder.specs.declared.Begun.{Begun}
 use Rattle.finder.specs.declared.State.{State}
 use Rattle.finder.specs.declared.Found.{Found}
 use Rattle.finder.specs.declared.Window.{Window}
-use Rattle.finder.specs.Samples.{last_end, longest_step, Good}
+use Rattle.finder.specs.Samples.{longest_step}
 use Rattle.finder.specs.Spans.{first_after, closed_in, ended}
 use Rattle.finder.specs.Asked.{middles_in}
 use Rattle.finder.specs.Flags.{first_flags}
 
--- a sample of a window that is let through
-pub record Sampled (w : Window) (at : ℕ) : Type 0 where
-  pub good : Good w
-  pub inside : at ≤ w.t1
-
--- the sample after it
+-- the sample after the sample `at`
 abbrev pub next : Window → ℕ → ℕ
 next w at = min (at + w.step) w.t1
 
@@ -27,7 +22,6 @@ next w at = min (at + w.step) w.t1
 pub record Stretch (f : ℕ → Bool) (low high : ℕ) (was : Bool) : Type 0 where
   pub from : low ≤ high
   pub near : high ≤ low + longest_step
-  pub early : high ≤ last_end
   pub answered : was ≡ f low
 
 -- neighbours of which the low one answered `was` and the high one the other way
@@ -47,11 +41,12 @@ RoomFor count n out = 24 * (count + n) ≤ length out
 abbrev pub was_of : State → Bool
 was_of s = is_some s.begun
 
--- where it began, or 0 where none is
+-- the first of an interval that may be open; 0 where none is
 abbrev pub first_in : Option Begun → ℕ
 first_in None = 0
 first_in (Some o) = o.first
 
+-- that of the state's
 abbrev pub first_of : State → ℕ
 first_of s = first_in s.begun
 
@@ -59,7 +54,7 @@ first_of s = first_in s.begun
 abbrev pub opened : (ℕ → Sight) → Window → Bool → ℕ → Option Begun
 opened g w told first = then_some told (record { first = first; flags = first_flags g w first })
 
--- what one step supposes, to the sample b of the window, with room for what it closes
+-- what one step supposes, to the sample b of the window: what is open is as f answered, and there is room for what the step closes
 pub record Along (f : ℕ → Bool) (g : ℕ → Sight) (w : Window) (s : State) (b : ℕ) (out : List ℕ) : Type 0 where
   pub stretch : Stretch f s.at b (was_of s)
   pub from : w.t0 ≤ s.at
@@ -89,12 +84,12 @@ advanced f g w s b = record {
   asked = s.asked + suc (length (middles_in f s.at b));
 }
 
--- what the end supposes: the last sample, with room for what it closes
+-- what the end supposes: the last sample was reached, what is open is as f answered there, and there is room for what that closes
 pub record AtEnd (f : ℕ → Bool) (g : ℕ → Sight) (w : Window) (s : State) (out : List ℕ) : Type 0 where
   pub last : s.at ≡ w.t1
   pub here : s.begun ≡ opened g w (f s.at) (first_of s)
   pub room : RoomFor s.count (length (ended (was_of s) (first_of s) s.at)) out
 
--- what is found after the last sample: a yes there, at t1, closes an interval
+-- what is found after the last sample: a yes there, at t1, closes an interval too
 unfoldable pub finished : State → Found
 finished s = record { intervals = s.count + length (ended (was_of s) (first_of s) s.at); asked = s.asked }

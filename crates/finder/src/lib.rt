@@ -1,7 +1,7 @@
 // The list of a window's intervals: samples, and in each step whose ends differ a search by halving.
 #![tactic(auto)]
 
-ghost use Rattle.std.specs.Prelude.{◌≡◌, cond, length, ⊤};
+ghost use Rattle.std.specs.Prelude.{◌≡◌, ◌≤◌, cond, ⊤};
 ghost use Rattle.std.specs.Bool.{beq};
 ghost use Rattle.geometry.specs.Visible.{answer_at};
 ghost use Rattle.geometry.specs.Sight.{sight_at};
@@ -9,7 +9,7 @@ ghost use Rattle.finder.specs.Samples.{Good, steps_of};
 ghost use Rattle.finder.specs.Spans.{edge, closed_in, ended, list_of};
 ghost use Rattle.finder.specs.Flags.{differing};
 ghost use Rattle.finder.specs.Records.{written, found_of, HasRoom};
-ghost use Rattle.finder.specs.State.{Sampled, next, Stretch, Along, Turned, RoomFor, Flagged, closed_out, advanced, AtEnd, finished, was_of, first_of};
+ghost use Rattle.finder.specs.State.{next, Stretch, Along, Turned, RoomFor, Flagged, closed_out, advanced, AtEnd, finished, was_of, first_of};
 
 use geometry::Sky;
 use halving::{Edge, Search};
@@ -38,7 +38,8 @@ struct Begun {
     pub flags: u32,
 }
 
-// The finder has come to the sample `at`. Where that answered yes, an interval has begun. So far it wrote `count` intervals and asked `asked` instants.
+// The finder has come to the sample `at`; where that answered yes, an interval has begun. So far it wrote `count` intervals and asked `asked`
+// instants.
 #[derive(Clone, Copy)]
 struct State {
     pub at: u64,
@@ -48,11 +49,12 @@ struct State {
 }
 
 // n, the number of steps; the last may be shorter.
+#[tactic(auto, using(crate::proofs::Samples::steps_ceil))]
 pub fn steps(w: Window) -> u64
     requires { Good w }
     ensures { result ≡ steps_of w }
 {
-    (w.t1 - w.t0 + (w.step - 1)) / w.step
+    (w.t1 - w.t0).div_ceil(w.step)
 }
 
 // A bit, where an answer differs.
@@ -62,7 +64,7 @@ fn bit(value: u32, differs: bool) -> u32
     if differs { value } else { 0 }
 }
 
-// What is asked of which window.
+// A question about a sky, asked over a window.
 #[derive(Drop)]
 struct Finder<'a> {
     sky: &'a Sky<'a>,
@@ -102,7 +104,7 @@ impl Finder<'_> {
 
     // The sample after the sample `at`.
     fn sample(&self, at: u64) -> u64
-        requires { Sampled self.now.window at }
+        requires { at ≤ self.now.window.t1 }
         ensures { result ≡ next self.now.window at }
     {
         self.window.t1.min(at + self.window.step)
@@ -165,8 +167,8 @@ impl Finder<'_> {
                     first: e.high,
                     flags,
                 }),
-                count: s.count,
                 asked,
+                ..s
             },
             Some(begun) => {
                 self.put(out, s.count, begun, e.low, 4 * flags);
@@ -227,10 +229,10 @@ pub fn list(sky: &Sky, question: u32, w: Window, out: &mut [u8]) -> Found
     ensures value { result ≡ found_of (answer_at sky.now question) w }
     ensures out_after { out.new ≡ written (sight_at sky.now question) w out.old 0 (list_of (answer_at sky.now question) w) }
 {
-    let finder = Finder {
+    Finder {
         sky,
         question,
         window: w,
-    };
-    finder.list(out)
+    }
+    .list(out)
 }

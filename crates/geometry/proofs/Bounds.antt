@@ -1,6 +1,5 @@
 -- Bounds, part by part: what is fixed for a job is as small as the whole numbers make it, and so is a place, d, and the station's rise.
 use mathlib.Core.Path.{◌≡◌, sym, subst}
-use mathlib.Core.List.{List}
 use Prim.Native.Nat.{ℕ, ◌+◌, ◌*◌, ◌-◌, ◌^◌, ◌≤◌, ◌<◌}
 use native.Mathlib.Nat.{le_trans, mul-le-mul}
 use native.Mathlib.Omega.{arith}
@@ -11,7 +10,6 @@ use Rattle.fixed.specs.Within.{Within, Small, Entries}
 use Rattle.fixed.specs.Root.{root_of}
 use Rattle.fixed.proofs.Within.{small, scaled-within, add-within, dot-within}
 use Rattle.fixed.proofs.Roots.{root-le}
-use Rattle.sine.specs.Sine.{sines}
 use Rattle.sine.proofs.Laws.{sine-small, cosine-small}
 use Rattle.elements.specs.declared.rounding.Wholes.{Wholes}
 use Rattle.elements.specs.Rounding.{most_axis, Bounded}
@@ -20,7 +18,7 @@ use Rattle.rotation.specs.Rotation.{row_of}
 use Rattle.rotation.proofs.Rows.{turn-unit, Row, direction-entries, row-dot, plane_row}
 use Rattle.geometry.specs.declared.Orbit.{Orbit}
 use Rattle.geometry.specs.declared.Place.{Place}
-use Rattle.geometry.specs.Ready.{deepest, SoundEllipse, SoundBody, SoundStation, SoundOrbit, InOrbit, Ready}
+use Rattle.geometry.specs.Sound.{deepest, SoundEllipse, SoundBody, SoundStation, SoundOrbit, InOrbit}
 use Rattle.geometry.specs.Prepared.{minor_of, ellipse_of, rotation_for, toward_of, body_of, station_of, orbit_of}
 use Rattle.geometry.specs.Placed.{anomaly_of, place_of}
 use Rattle.geometry.specs.Hidden.{depth_of}
@@ -78,10 +76,6 @@ pub orbit_sound : {w : Wholes} → Bounded w → SoundOrbit (orbit_of w)
 unfolding orbit_of
 orbit_sound {w} h = record { ellipse = ellipse_sound h; body = body_sound w; station = station_sound w }
 
--- what `prepare` made is ready: the law for callers
-pub prepared : {t : List ℕ} {w : Wholes} {o : Orbit} → t ≡ sines → Bounded w → o ≡ orbit_of w → Ready t o
-prepared s h e = record { table = s; orbit = subst SoundOrbit (sym e) (orbit_sound h) }
-
 -- ---- at an instant
 
 place_sound : {o : Orbit} → SoundOrbit o → (t : ℕ) → InOrbit o (place_of o t)
@@ -94,9 +88,9 @@ place_sound {o} h t =
       y = scaled-within most_axis h.ellipse.minor (sine-small (anomaly_of o t)) (lit≤ tt);
     }
 
--- what `place_of` gave may be handed to `depth`: the law for callers
-pub placed : {l : List ℕ} {o : Orbit} {a : Place} (t : ℕ) → Ready l o → a ≡ place_of o t → InOrbit o a
-placed {o = o} t h e = subst (InOrbit o) (sym e) (place_sound h.orbit t)
+-- what `Sky::place` gave may be handed to `Sky::depth`: the law for callers
+pub placed : {o : Orbit} {a : Place} (t : ℕ) → SoundOrbit o → a ≡ place_of o t → InOrbit o a
+placed {o = o} t h e = subst (InOrbit o) (sym e) (place_sound h t)
 
 pub depth-within : {o : Orbit} {a : Place} → InOrbit o a → Within (depth_of o a) deepest
 unfolding depth_of

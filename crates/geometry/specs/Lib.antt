@@ -1,6 +1,6 @@
 -- The definitions that the contracts of `geometry` cite.
 pub mod Prepared
-pub mod Ready
+pub mod Sound
 pub mod Placed
 pub mod Hidden
 pub mod Visible

@@ -5,7 +5,7 @@ ghost use Rattle.std.specs.Prelude.{◌≡◌};
 ghost use Rattle.fixed.specs.Within.{Within};
 ghost use Rattle.elements.specs.Rounding.{Bounded};
 ghost use Rattle.geometry.specs.Prepared.{minor_of, ellipse_of, rotation_for, toward_of, body_of, station_of, orbit_of};
-ghost use Rattle.geometry.specs.Ready.{InOrbit, deepest};
+ghost use Rattle.geometry.specs.Sound.{InOrbit, deepest};
 ghost use Rattle.geometry.specs.Placed.{anomaly_of, place_of};
 ghost use Rattle.geometry.specs.Hidden.{depth_of, behind_of, hidden_at};
 ghost use Rattle.geometry.specs.Visible.{term_at, zenith_of, up_at, visible_at, answer_at};
@@ -71,9 +71,9 @@ pub struct Sky<'a> {
     orbit: Orbit,
 }
 
-impl Model for Sky<'_> {
+impl<'a> Model for Sky<'a> {
     ghost use Rattle.geometry.specs.declared.Orbit.{Orbit};
-    ghost use Rattle.geometry.specs.Ready.{SoundOrbit};
+    ghost use Rattle.geometry.specs.Sound.{SoundOrbit};
 
     ghost Value = { Orbit };
 
@@ -187,9 +187,10 @@ impl<'a> Sky<'a> {
         kepler::eccentric(self.sines, self.orbit.ellipse.eccentricity, m)
     }
 
-    // The place at an instant.
+    // The place at an instant, from which `depth` may be asked.
     pub fn place(&self, at: u64) -> Place
-        ensures { result ≡ place_of self.now at }
+        ensures place { result ≡ place_of self.now at }
+        ensures in_orbit { InOrbit self.now result }
     {
         let l = self.orbit.ellipse;
         let e = self.anomaly(at);
@@ -266,8 +267,8 @@ impl<'a> Sky<'a> {
         }
     }
 
-    // What tells why at an instant that answered `told`. Most of it is known from that answer: of a no to question 2 up is worked out again, and hidden
-    // only where the planet is down, where `answer` did not ask it.
+    // What tells why at an instant that answered `told`. Most of it is known from that answer: of a no to question 2 up is worked out
+    // again, and hidden only where the planet is down, where `answer` did not ask it.
     pub fn sight(&self, question: u32, at: u64, told: bool) -> Sight
         requires { Answered self.now question at told }
         ensures { result ≡ sight_at self.now question at }

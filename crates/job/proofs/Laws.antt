@@ -3,11 +3,12 @@ use Prim.Native.Nat.{ℕ, suc, ◌+◌, ◌-◌, ◌*◌, ◌/◌, ◌≤◌, �
 use mathlib.Core.Path.{◌≡◌, refl, sym, ap, ◌∙◌}
 use mathlib.Core.Logic.{◌⊎◌, inl, inr}
 use mathlib.Core.Bool.{Bool, true, false, not, ◌&&◌, ◌||◌, true≢false}
-use mathlib.Core.List.{[], ◌∷◌}
+use mathlib.Core.List.{List, [], ◌∷◌}
 use native.Mathlib.Omega.{arith}
 use native.Mathlib.Nat.{le-div_iff_mul-le, div-lt_iff_lt-mul, suc-mul}
 use borrow.Author.Tests.{ltb-true, ltb-false, leb-false, eqb-true, eqb-false, lt-ltb, le-ltb}
 use lib.Dec.{eqb, ltb, leb}
+use Rattle.std.specs.Prelude.{Err}
 use Rattle.refusal.specs.Rows.{Verdict, passed, ◌then◌, first, row_at}
 use Rattle.refusal.specs.Refusal.{number_of, field_of, zero, value_of, bits_of}
 use Rattle.refusal.specs.declared.Refusal.{Refusal}
@@ -27,6 +28,26 @@ neither false b h = (refl, h)
 pub both : (a b : Verdict) → (a then b) ≡ passed → (a ≡ passed) × (b ≡ passed)
 unfolding first row_at
 both a b h = let p = (passed-exactly (a ∷ b ∷ [])).0 (ap (λ (v : Verdict). a then v) (then-passed b) ∙ h) in (p 0, p 1)
+
+-- ---- rows in turn
+
+-- a row that refuses ends it
+pub stopped : {v : Verdict} (vs : List Verdict) {r : Refusal} → v ≡ Err r → first (v ∷ vs) ≡ Err r
+unfolding first ◌then◌
+stopped vs h = rw h refl
+
+-- one that passes hands on
+pub handed_on : {v : Verdict} (vs : List Verdict) → v ≡ passed → first (v ∷ vs) ≡ first vs
+unfolding first ◌then◌
+handed_on vs h = rw h refl
+
+-- and the last decides
+pub decided : (v : Verdict) → first (v ∷ []) ≡ v
+unfolding first
+decided v = then-passed v
+
+-- for the check
+pub ruleset rows = (stopped, handed_on, decided)
 
 -- ---- steps
 

@@ -77,6 +77,7 @@ fn bad_question(question: u32) -> bool
 }
 
 // Rows 6 to 8.
+#[tactic(auto, using(crate::proofs::Laws::rows))]
 fn window_to_question(w: Window, question: u32) -> Result<(), Refusal>
     ensures { result ≡ first (rows_to_question w question) }
 {

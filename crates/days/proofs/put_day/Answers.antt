@@ -5,4 +5,4 @@ use Rattle.days.proofs.put_day.Goals as goal
 pub returns : goal.returns
 returns c =
     let a = c.args in
-    day_puts a.out.now a.at a.day a.intervals a.instants c.put4.ensures c.put4-2.ensures c.put8.ensures
+    day_puts a.out.now a.at a.day a.intervals a.instants c.put.ensures c.put-2.ensures c.put-3.ensures

@@ -1,16 +1,18 @@
 -- `geometry::body_of` meets its contract, field by field: the rows' entries are within two, and E's within one.
 use mathlib.Core.Path.{◌≡◌, ◌∙◌}
 use mathlib.Core.List.{List}
-use Prim.Native.Nat.{ℕ}
+use Prim.Native.Nat.{ℕ, ◌*◌, ◌<◌}
 use lib.Dec.{lit≤, lit<}
 use lib.IntN.{ℤ}
-use Rattle.fixed.specs.Scaled.{dot_of}
+use Rattle.fixed.specs.Scaled.{one, dot_of}
+use Rattle.fixed.specs.Within.{Entries}
 use Rattle.fixed.proofs.Within.{wider-entries}
 use Rattle.fixed.proofs.Machine.{got}
 use Rattle.rotation.specs.Rotation.{row_of}
 use Rattle.rotation.proofs.Rows.{row-entries}
+use Rattle.elements.specs.declared.rounding.Wholes.{Wholes}
 use Rattle.geometry.specs.declared.Body.{Body}
-use Rattle.geometry.specs.Prepared.{body_of}
+use Rattle.geometry.specs.Prepared.{rotation_for, toward_of, body_of}
 use Rattle.geometry.proofs.Bounds.{row_within, toward-entries}
 use Rattle.geometry.proofs.body_of.Goals as goal
 
@@ -23,11 +25,15 @@ fields : {p q v w : ℤ} {d e : List ℤ} → p ≡ v → q ≡ w → d ≡ e
     (record { p = v; q = w; toward = e })
 fields f g h = cc
 
+-- such a row and the direction are small enough to be multiplied
+small : (w : Wholes) (k : ℕ) {m : List (List ℤ)} {e : List ℤ} → k < 2 → m ≡ rotation_for w → e ≡ toward_of w → Entries (row_of m k) (2 * one) × Entries e (2 * one)
+small w k h f g = (rw f (row-entries (row_within w k h)), rw g (wider-entries (toward-entries w) (lit≤ tt)))
+
 pub dot-requires : goal.dot-requires
-dot-requires c = (rw c.rotation_of-m.ensures (row-entries (row_within _ _ (lit< tt))), rw c.toward-e.ensures (wider-entries (toward-entries _) (lit≤ tt)))
+dot-requires c = small _ 0 (lit< tt) c.rotation_of-m.ensures c.toward-e.ensures
 
 pub dot-requires-2 : goal.dot-requires-2
-dot-requires-2 c = (rw c.rotation_of-m.ensures (row-entries (row_within _ _ (lit< tt))), rw c.toward-e.ensures (wider-entries (toward-entries _) (lit≤ tt)))
+dot-requires-2 c = small _ 1 (lit< tt) c.rotation_of-m.ensures c.toward-e.ensures
 
 pub returns : goal.returns
 unfolding body_of

@@ -1,16 +1,12 @@
 -- `geometry::rotation_of` meets its contract: it is the rotation of the three turns.
 use mathlib.Core.Path.{◌≡◌, ◌∙◌}
-use Rattle.rotation.specs.declared.Turn.{Turn}
+use Rattle.rotation.specs.CosSin.{CosSin}
 use Rattle.rotation.specs.Rotation.{rotation_of_of}
-use Rattle.rotation.proofs.Rows.{made-unit}
 use Rattle.geometry.specs.Prepared.{rotation_for}
 use Rattle.geometry.proofs.rotation_of.Goals as goal
 
-of_turns : {ω Ω i ω' Ω' i' : Turn} → ω ≡ ω' → Ω ≡ Ω' → i ≡ i' → rotation_of_of ω Ω i ≡ rotation_of_of ω' Ω' i'
+of_turns : {ω Ω i ω' Ω' i' : CosSin} → ω ≡ ω' → Ω ≡ Ω' → i ≡ i' → rotation_of_of ω Ω i ≡ rotation_of_of ω' Ω' i'
 of_turns e f g = cc
-
-pub rotation-requires : goal.rotation-requires
-rotation-requires c = (made-unit _ c.turn_of.ensures, made-unit _ c.turn_of-2.ensures, made-unit _ c.turn_of-3.ensures)
 
 pub returns : goal.returns
 unfolding rotation_for

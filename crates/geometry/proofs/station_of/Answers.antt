@@ -4,12 +4,12 @@ use Prim.Native.Nat.{ℕ}
 use lib.IntN.{ℤ}
 use Rattle.angle.specs.declared.Angle.{Angle}
 use Rattle.fixed.proofs.Machine.{got}
-use Rattle.rotation.specs.declared.Turn.{Turn}
+use Rattle.rotation.specs.CosSin.{CosSin}
 use Rattle.geometry.specs.declared.Station.{Station}
 use Rattle.geometry.specs.Prepared.{station_of}
 use Rattle.geometry.proofs.station_of.Goals as goal
 
-fields : {l k : Turn} {m n : Angle} {s r : ℤ} → l ≡ k → m ≡ n → s ≡ r
+fields : {l k : CosSin} {m n : Angle} {s r : ℤ} → l ≡ k → m ≡ n → s ≡ r
     → ◌≡◌ {A = Station} (record { latitude = l; meridian = m; least = s })
     (record { latitude = k; meridian = n; least = r })
 fields e f g = cc

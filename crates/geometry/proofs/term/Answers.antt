@@ -16,4 +16,4 @@ rest-alike p k t =
 
 pub returns : goal.returns
 unfolding term_at
-returns c = c.phase.ensures ∙ rest-alike ten_turns 10 _
+returns c = (rw c.from.ensures at c.phase.ensures) ∙ rest-alike ten_turns 10 _

@@ -1,14 +1,14 @@
 -- `finder::Finder::list` meets its contract.
 use mathlib.Core.Path.{◌∙◌}
 use Rattle.std.proofs.Math.Numerals.{add-one}
-use Rattle.finder.proofs.Going.{going_start, going_sampled, going_along, going_on, at-end, end-found, end_out}
+use Rattle.finder.proofs.Going.{going_start, going_inside, going_along, going_on, at-end, end-found, end_out}
 use Rattle.finder.proofs.Finder.list.Goals as goal
 
 pub loop-init : goal.loop-init
 loop-init c = going_start _ _ _ _ c.args.self.now.good _ (rw c.answer.ensures at c.then_some-begun.ensures)
 
 pub sample-requires : goal.sample-requires
-sample-requires c = going_sampled c.args.self.now.good c.loop.invariant
+sample-requires c = going_inside c.args.self.now.good c.loop.invariant
 
 pub advance-s-requires : goal.advance-s-requires
 advance-s-requires c = rw c.sample.ensures (going_along c.args.self.now.good c.loop.invariant (rw c.steps-end.ensures at c.loop-test.true) c.requires)

@@ -1,5 +1,4 @@
 -- `finder::Finder::why` meets its contract: a bit for each of the two answers.
-use Rattle.std.proofs.Common.{rules}
 use Rattle.finder.specs.Flags.{differing}
 use Rattle.finder.proofs.Finder.why.Goals as goal
 

@@ -2,13 +2,9 @@
 use mathlib.Core.Path.{ap, ◌∙◌}
 use mathlib.Core.List.{List}
 use Prim.Native.Nat.{ℕ}
-use native.Mathlib.Omega.{arith}
-use lib.ListN.{get_or, length}
-use Rattle.sine.proofs.Tabulate.{sines-length, sines-at}
+use lib.ListN.{get_or}
+use Rattle.sine.proofs.Tabulate.{sines-at}
 use Rattle.sine.proofs.Sines.entry.Goals as goal
-
-pub bounds-self-inside-k : goal.bounds-self-inside-k
-bounds-self-inside-k c = omega (arith, ap length c.self.invariant, sines-length)
 
 pub returns : goal.returns
 returns c =

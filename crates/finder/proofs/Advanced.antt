@@ -54,7 +54,8 @@ module _ (g : ℕ → Sight) (w : Window) where
   opened-flags false first o e = cc
 
   -- and so are those of a state's
-  pub begun-flags : (s : State) (told : Bool) (first : ℕ) → s.begun ≡ opened g w told first → (o : Begun) → s.begun ≡ Some o → o.flags ≡ first_flags g w o.first
+  pub begun-flags : (s : State) (told : Bool) (first : ℕ) → s.begun ≡ opened g w told first
+      → (o : Begun) → s.begun ≡ Some o → o.flags ≡ first_flags g w o.first
   begun-flags s told first here o is = opened-flags told first o (sym is ∙ here)
 
 -- ---- one step

@@ -44,7 +44,8 @@ unfolding walk
 walk-shut f x y a [] no' = rw no'
 walk-shut f x y a (b ∷ ts) no' = by (f b) refl (walk-shut f x y b ts)
   where
-    by : (told : Bool) → f b ≡ told → (f b ≡ false → walk f x b ts ≡ walk f y b ts) → closed_in f x a b ++ walk f (first_after f x a b) b ts ≡ closed_in f y a b ++ walk f (first_after f y a b) b ts
+    by : (told : Bool) → f b ≡ told → (f b ≡ false → walk f x b ts ≡ walk f y b ts)
+        → closed_in f x a b ++ walk f (first_after f x a b) b ts ≡ closed_in f y a b ++ walk f (first_after f y a b) b ts
     by true e rest =
         rw (closed_begins f x a b no' e, closed_begins f y a b no' e, first-begins f x a b no' e, first-begins f y a b no' e)
     by false e rest =
@@ -52,7 +53,8 @@ walk-shut f x y a (b ∷ ts) no' = by (f b) refl (walk-shut f x y b ts)
         rw (closed_same f x a b same, closed_same f y a b same, first-same f x a b same, first-same f y a b same) (rest e)
 
 -- so it is enough to know the first of what is open
-walk-opened : (f : ℕ → Bool) (g : ℕ → Sight) (w : Window) (first a : ℕ) (ts : List ℕ) → walk f (first_in (opened g w (f a) first)) a ts ≡ walk f first a ts
+walk-opened : (f : ℕ → Bool) (g : ℕ → Sight) (w : Window) (first a : ℕ) (ts : List ℕ)
+    → walk f (first_in (opened g w (f a) first)) a ts ≡ walk f first a ts
 walk-opened f g w first a ts = by (f a) refl
   where
     by : (told : Bool) → f a ≡ told → walk f (first_in (opened g w told first)) a ts ≡ walk f first a ts
@@ -60,7 +62,8 @@ walk-opened f g w first a ts = by (f a) refl
     by false e = walk-shut f 0 first a ts e
 
 pub going_start : (f : ℕ → Bool) (g : ℕ → Sight) (w : Window) (out₀ : List ℕ) → Good w
-    → (begun : Option Begun) → begun ≡ then_some (f w.t0) (record { first = w.t0; flags = 1 }) → Going f g w out₀ out₀ (record { at = w.t0; begun = begun; count = 0; asked = 1 }) 0
+    → (begun : Option Begun) → begun ≡ then_some (f w.t0) (record { first = w.t0; flags = 1 })
+    → Going f g w out₀ out₀ (record { at = w.t0; begun = begun; count = 0; asked = 1 }) 0
 unfolding list_of instants_of samples
 going_start f g w out₀ good begun e =
     let all : steps_of w - 0 ≡ steps_of w = omega arith in

@@ -15,8 +15,8 @@ use geometry::Sky;
 use halving::{Edge, Search};
 use interval::Interval;
 
-// A job's number, and its window and step in ms. Refusals 6 and 7 are of windows that are not good, so `Good` stays a clause: a second type beside this one would be taken apart wherever
-// its numbers are read, and be no plainer.
+// A job's number, and its window and step in ms. Refusals 6 and 7 are of windows that are not good, so `Good` stays a clause: a second type beside
+// this one would be taken apart wherever its numbers are read, and be no plainer.
 #[derive(Clone, Copy, Debug, PartialEq, Eq)]
 pub struct Window {
     pub job: u32,

@@ -88,7 +88,8 @@ const ONE_SQUARED: u64 = 1_152_921_504_606_846_976;
 // In ms: one turn of the station is no whole number of them.
 const TEN_TURNS: u32 = 861_640_905;
 
-// a∘q, half the minor axis. `Bounded` stays a clause, here and where it is handed down: a second type beside `Wholes` would be taken apart at once, and be no plainer.
+// a∘q, half the minor axis. `Bounded` stays a clause, here and where it is handed down: a second type beside `Wholes` would be taken apart
+// at once, and be no plainer.
 fn minor(w: Wholes) -> i64
     requires { Bounded w }
     ensures { result ≡ minor_of w }

@@ -1,9 +1,9 @@
 -- Where the search goes on from a guess: in a cell outside of which all is settled; and from 0 to a turn there is no outside.
 use mathlib.Core.Path.{◌≡◌, refl, ap, ◌∙◌}
-use Prim.Native.Nat.{ℕ, ◌+◌, ◌-◌, ◌*◌, ◌%◌, ◌^◌, ◌≤◌, ◌<◌}
+use Prim.Native.Nat.{ℕ, ◌+◌, ◌-◌, ◌^◌, ◌≤◌, ◌<◌}
 use native.Mathlib.Omega.{arith}
 use lib.Dec.{lit≤}
-use lib.Pow.{pow_mono, pow_pos}
+use lib.Pow.{pow_pos}
 use Rattle.halving.specs.Foretold.{cell_of, YesUpTo, NoFrom}
 use Rattle.halving.specs.declared.Edge.{Edge}
 use Rattle.halving.specs.Halving.{halve}
@@ -14,15 +14,11 @@ use Rattle.kepler.specs.declared.Bracket.{Bracket}
 use Rattle.kepler.specs.Kepler.{reached, search_of, kepler_of}
 use Rattle.kepler.specs.Shortcut.{InTurn, Halvings, cell_at, GoesOn}
 
--- 2^s, as the machine shifts it
-pub shifted : (s : ℕ) → Halvings s → 1 * 2 ^ s % 2 ^ 64 ≡ 2 ^ s
-shifted s l = let small : 2 ^ s ≤ 2 ^ 32 = pow_mono {j = 32} l in omega arith
-
 module _ (g s : ℕ) (h : InTurn g) (l : Halvings s) where
   all : 32 - s + s ≡ 32
   all = omega arith
 
-  pub cell_in_turn : cell_of g s + 2 ^ s ≤ turn
+  cell_in_turn : cell_of g s + 2 ^ s ≤ turn
   cell_in_turn = rw all at (cell-within g s (32 - s) (rw all h))
 
   -- of a bracket that is the cell
@@ -33,14 +29,11 @@ module _ (g s : ℕ) (h : InTurn g) (l : Halvings s) where
     high_is : b.high ≡ cell_of g s + 2 ^ s
     high_is = ap (λ (v : Bracket). v.high) is
 
-    pub ends_in_turn : (b.low ≤ turn) × (b.high ≤ turn)
-    ends_in_turn = (omega (arith, low-is, cell_in_turn), omega (arith, high_is, cell_in_turn))
-
     pub goes_on : (e M : ℕ) → YesUpTo (reached e M) b.low → NoFrom (reached e M) b.high turn → GoesOn e M s b
     unfolding search_of
     goes_on e M lower upper =
         let rest = from_cell (reached e M) g s (32 - s) (rw all h) (rw low-is at lower) (rw (all, ← high_is) upper) in
-        record { few = l; wide = rw (low-is, high_is); within = ends_in_turn.1; rest = rw (low-is, high_is) (rw all at rest) }
+        record { few = l; wide = rw (low-is, high_is); within = rw high_is cell_in_turn; rest = rw (low-is, high_is) (rw all at rest) }
 
 -- the whole search
 pub whole : (e M : ℕ) → GoesOn e M 32 (record { low = 0; high = turn })

@@ -50,8 +50,8 @@ pub fn phase(period: u32, at: u64) -> Angle
     Angle { units }
 }
 
-// Kepler's equation for one instant: e and M, with the sine table by which K is read. An anomaly stays a plain number: sums go beyond a turn, so a type of those up to a turn
-// would be left at each step, and be no plainer than a clause.
+// Kepler's equation for one instant: e and M, with the sine table by which K is read. An anomaly stays a plain number: sums go beyond
+// a turn, so a type of those up to a turn would be left at each step, and be no plainer than a clause.
 #[derive(Drop)]
 struct Equation<'a> {
     sines: &'a Sines,
@@ -153,8 +153,8 @@ impl Equation<'_> {
         high == TURN || i64::from(self.mean.units) + FALL < self.k(high)
     }
 
-    // The first cell around the guess g that is sure, or the turn. One that is not has an end too close to E, or does not hold it. A round number ends
-    // cells of every length but the turn's, so few are tried.
+    // The first cell around the guess g that is sure, or the turn. One that is not has an end too close to E, or does not hold it.
+    // A round number ends cells of every length but the turn's, so few are tried.
     fn sure_cell(&self, g: u64) -> Bracket
         requires { InTurn g }
         ensures { GoesOnIn self.now.eccentricity self.now.mean.units result }
@@ -188,7 +188,8 @@ fn cell(g: u64, s: u32) -> Bracket
     }
 }
 
-// The eccentric anomaly E: the low end of the search from 0 and a turn, once its ends are neighbours. Of its 32 halvings those are made that are left in the cell.
+// The eccentric anomaly E: the low end of the search from 0 and a turn, once its ends are neighbours. Of its 32 halvings those are made
+// that are left in the cell.
 pub fn eccentric(sines: &Sines, e: u32, m: Angle) -> Angle
     requires { Eccentricity e }
     ensures { result.units ≡ kepler_of e m.units }

@@ -41,6 +41,18 @@ module _ (v a b : Verdict) (parts : v ≡ (a then b)) where
   unfolding ◌then◌
   goes h = parts ∙ rw h
 
+-- what `?` does: a row that passes goes on to those behind it, and a refusal ends them
+pub goes_on : (a b : Verdict) {v : Verdict} {t : Unit {0}} → Ok t ≡ a → v ≡ b → v ≡ (a then b)
+unfolding ◌then◌
+goes_on a b p q = q ∙ ap (λ (x : Verdict). x then b) p
+
+pub ends_at : (a b : Verdict) {v : Verdict} {r : Refusal} → v ≡ Err r → Err r ≡ a → v ≡ (a then b)
+unfolding ◌then◌
+ends_at a b h p = h ∙ ap (λ (x : Verdict). x then b) p
+
+pub is_last : (a : Verdict) {v : Verdict} → v ≡ a → v ≡ (a then passed)
+is_last a h = h ∙ sym (then-passed a)
+
 -- of a row: of its test
 pub when-told : {v : Verdict} {t t' : Bool} (r : Refusal) → v ≡ when t r → t ≡ t' → v ≡ when t' r
 when-told r e p = e ∙ ap (λ (x : Bool). when x r) p

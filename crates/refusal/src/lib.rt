@@ -2,10 +2,10 @@
 #![tactic(auto)]
 
 ghost use Rattle.std.specs.Prelude.{◌≡◌};
-ghost use Rattle.std.specs.Float.{binary64};
-ghost use Rattle.std.specs.Float.Ieee.{to_bits};
 ghost use Rattle.refusal.specs.Refusal.{number_of, field_of, value_of, bits_of};
 ghost use Rattle.refusal.specs.Rows.{when};
+
+use std::num::f64_to_bits_with_nan;
 
 // Refusal 3 has the field's own bits beside its float: as a float a NaN is just a NaN.
 #[derive(Clone, Copy, Debug, PartialEq)]
@@ -19,17 +19,6 @@ pub enum Refusal {
     Step,
     Question,
     Room,
-}
-
-// A float's bits. A NaN's own cannot be told from its float: here it has the plain one's.
-fn pattern(x: f64) -> u64
-    ensures { result ≡ to_bits binary64 x }
-{
-    if x.is_nan() {
-        0x7ff8_0000_0000_0000
-    } else {
-        x.to_bits()
-    }
 }
 
 // What C and the closing record are told of a refusal.
@@ -72,14 +61,14 @@ impl Refusal {
         }
     }
 
-    // The bits of the number that is handed back, a NaN's own among them.
+    // The bits of the number that is handed back. Refusal 3 has the field's own; a float gives its own, and a NaN the plain one's.
     pub fn bits(self) -> u64
         ensures { result ≡ bits_of self }
     {
         match self {
             Refusal::NotFinite { bits, .. } => bits,
-            Refusal::OutOfRange { value, .. } => pattern(value),
-            Refusal::TooClose { distance } => pattern(distance),
+            Refusal::OutOfRange { value, .. } => f64_to_bits_with_nan(value),
+            Refusal::TooClose { distance } => f64_to_bits_with_nan(distance),
             _ => 0,
         }
     }

@@ -14,7 +14,7 @@ edge_is c =
     found on (c.halve-edge.ensures _ (omega (arith, on.wide)))
 
 pub overflow_cast-units : goal.overflow_cast-units
-overflow_cast-units c = record { fits = (edge_is (goal.at.overflow_cast-units c).After-halve-edge).1 }
+overflow_cast-units c = record { fits = omega (arith, (edge_is (goal.at.overflow_cast-units c).After-halve-edge).1) }
 
 pub returns : goal.returns
 returns c = (edge_is (goal.at.returns c).After-halve-edge).0

@@ -4,7 +4,7 @@ use Prim.Native.Nat.{ℕ, ◌%◌}
 use native.Mathlib.Nat.{le_trans}
 use lib.Dec.{lit≤}
 use lib.IntN.{ℤ, pos}
-use Rattle.fixed.specs.Scaled.{one, ◌∘◌}
+use Rattle.fixed.specs.Scaled.{one}
 use Rattle.fixed.specs.Within.{Is}
 use Rattle.fixed.proofs.Machine.{loc, held, called, cast, difference, unit-is}
 use Rattle.angle.specs.Turn.{turn}

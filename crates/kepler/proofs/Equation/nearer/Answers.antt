@@ -1,5 +1,5 @@
 -- `Equation::nearer` meets its contract: the last sum fits, since no quotient is further from 0 than what is divided.
-use Prim.Native.Nat.{◌*◌, ◌+◌, ◌-◌, ◌%◌, ◌≤◌}
+use Prim.Native.Nat.{◌-◌, ◌%◌, ◌≤◌}
 use native.Mathlib.Nat.{le_refl}
 use native.Mathlib.Omega.{arith}
 use lib.IntN.{pos, ◌-ℤ◌}

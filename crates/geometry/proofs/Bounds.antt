@@ -76,6 +76,10 @@ pub orbit_sound : {w : Wholes} → Bounded w → SoundOrbit (orbit_of w)
 unfolding orbit_of
 orbit_sound {w} h = record { ellipse = ellipse_sound h; body = body_sound w; station = station_sound w }
 
+-- and so is what `Sky::new` is given as its orbit
+pub prepared : {w : Wholes} {o : Orbit} → Bounded w → o ≡ orbit_of w → SoundOrbit o
+prepared h e = subst SoundOrbit (sym e) (orbit_sound h)
+
 -- ---- at an instant
 
 place_sound : {o : Orbit} → SoundOrbit o → (t : ℕ) → InOrbit o (place_of o t)

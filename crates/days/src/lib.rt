@@ -34,8 +34,8 @@ impl From<Refusal> for Fault {
     }
 }
 
-// The refusal's number or 0, the field that offends or 0, the bits of the number that is handed back, and how many days were written: what the
-// door's answer in C and the program's record hold.
+// The refusal's number or 0, the field that offends or 0, the bits of the number that is handed back, and how many days were written. It is
+// numbers because the door's answer to C is, and the program's record.
 #[derive(Clone, Copy)]
 pub struct Numbers {
     pub refusal: u32,

@@ -79,7 +79,7 @@ fn is_heard(answer: &[u8]) -> bool
 fn write(answer: &mut [u8], a: Answer)
     requires { AnswerSized answer.old }
     ensures answer_after { answer.new ≡ answer_bytes a }
-    ensures answer_after_2 { answer_in answer.new ≡ a }
+    ensures reads_back { answer_in answer.new ≡ a }
 {
     a.refusal.put(answer, 0);
     a.field.put(answer, 4);
@@ -103,8 +103,8 @@ pub fn quechotzal_list(record: &[u8], list: &mut [u8], answer: &mut [u8]) -> u32
     TOLD
 }
 
-// The totals of a list by day: the summary in `out` from byte 0, or why it is turned away and `out` as it was; what came of it in `answer`, where the days
-// stand for the intervals, and 1. Where `answer` is not 32 bytes nothing is written, and it returns 0.
+// The totals of a list by day: the summary in `out` from byte 0, or why it is turned away and `out` as it was; what came of it in `answer`, where
+// the days stand for the intervals, and 1. Where `answer` is not 32 bytes nothing is written, and it returns 0.
 pub fn quechotzal_days(record: &[u8], list: &[u8], out: &mut [u8], answer: &mut [u8]) -> u32
     ensures value { result ≡ returned_of answer.old }
     ensures out_after { out.new ≡ behind answer.old (summary_after_of «record».now list.now out.old) out.old }
@@ -118,8 +118,8 @@ pub fn quechotzal_days(record: &[u8], list: &[u8], out: &mut [u8], answer: &mut 
     TOLD
 }
 
-// One later interval, appended to the list whose summary is lent: the days that it touches are rewritten, or `summary` stays as it was; what came of it
-// in `answer`, and 1, as of `quechotzal_days`.
+// One later interval, appended to the list whose summary is lent: the days that it touches are rewritten, or `summary` stays as it was; what came
+// of it in `answer`, and 1, as of `quechotzal_days`.
 pub fn quechotzal_append(
     record: &[u8],
     list: &[u8],

@@ -94,9 +94,9 @@ fn minor(w: Wholes) -> i64
     requires { Bounded w }
     ensures { result ≡ minor_of w }
 {
-    let e = w.eccentricity as u64;
+    let e = u64::from(w.eccentricity);
     let q = fixed::whole_root(ONE_SQUARED - e * e);
-    fixed::scaled(w.axis as i64, q as i64)
+    fixed::scaled(i64::from(w.axis), q as i64)
 }
 
 // The ellipse and R².
@@ -104,12 +104,13 @@ fn ellipse_of(w: Wholes) -> Ellipse
     requires { Bounded w }
     ensures { result ≡ ellipse_of w }
 {
+    let radius = u64::from(w.radius);
     Ellipse {
-        axis: w.axis as i64,
+        axis: i64::from(w.axis),
         eccentricity: w.eccentricity,
         minor: minor(w),
         period: w.period,
-        radius2: (w.radius as u64) * (w.radius as u64),
+        radius2: radius * radius,
     }
 }
 
@@ -217,7 +218,7 @@ impl<'a> Sky<'a> {
         ensures { result ≡ behind_of self.now a d }
     {
         if d < 0 {
-            let deep = (-d) as u64;
+            let deep = d.unsigned_abs();
             let square = (a.x * a.x + a.y * a.y) as u64;
             square < self.orbit.ellipse.radius2 + deep * deep
         } else {

@@ -8,11 +8,7 @@ use native.Mathlib.Nat.{le_refl}
 use Rattle.std.specs.Prelude.{Ok, Err}
 use Rattle.refusal.specs.Rows.{Verdict, passed, ◌then◌, first}
 use Rattle.refusal.specs.declared.Refusal.{Refusal}
-use Rattle.refusal.proofs.Order.{stops, goes, first-exactly, passed-exactly}
-use Rattle.elements.specs.Reading.{record_rows, reading_of}
-use Rattle.elements.specs.declared.reading.Elements.{Elements}
-use Rattle.elements.proofs.Rows.{ordered}
-use Rattle.elements.proofs.Exactly.{read-exactly, refused-exactly}
+use Rattle.elements.specs.Reading.{record_rows}
 use Rattle.finder.specs.declared.Found.{Found}
 use Rattle.finder.specs.declared.Window.{Window}
 use Rattle.finder.specs.Samples.{Good}
@@ -24,19 +20,6 @@ use Rattle.job.proofs.Laws.{both, let_through}
 use Rattle.job.proofs.Cases.{window_parts, table_parts, admit_parts}
 use Rattle.job.proofs.Exactly.{refused-first, first-refused, listed-first}
 use Rattle.job.proofs.Roomy.{roomy_verdict}
-
-module _ (s : List ℕ) where
-  -- ---- the cases of `admit`
-
-  pub not-read : (r : Refusal) → reading_of s ≡ Err r → Err r ≡ admission_of s
-  unfolding admission_of admission_from
-  not-read r h =
-      let gives = (first-exactly (record_rows s) (ordered s) r).1 ((refused-exactly s r).0 h) in
-      rw (stops _ _ _ (admit_parts s) r gives)
-
-  pub was_read : (e : Elements) → reading_of s ≡ Ok e → admission_of s ≡ admission_from (first (rows_to_question (window_of s) (question_of s))) (window_of s)
-  unfolding admission_of
-  was_read e h = rw (goes _ _ _ (admit_parts s) ((passed-exactly (record_rows s)).1 ((read-exactly s e).0 h).0)) refl
 
 -- ---- an admission and the verdict
 

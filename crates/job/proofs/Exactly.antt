@@ -21,7 +21,8 @@ use Rattle.refusal.proofs.Order.{not-both, row-append, passed-exactly, Each, Ord
 use Rattle.refusal.proofs.Order.Each.{done, ◌also◌}
 use Rattle.elements.specs.Field.{bits_in, float_of, judge}
 use Rattle.elements.specs.Closest.{closest_of}
-use Rattle.elements.specs.Reading.{WholeRecord, elements_of, field_rows, record_rows, Returns}
+use Rattle.elements.specs.Reading.{WholeRecord, elements_of, field_rows, record_rows, reading_of, Returns}
+use Rattle.elements.specs.declared.reading.Elements.{Elements}
 use Rattle.elements.specs.Accepted.{Accepted}
 use Rattle.elements.proofs.Rows.{Told, plain, told, ordered, passed-accepted, field_row, named_later, length-passed}
 use Rattle.elements.proofs.Exactly as reading
@@ -30,10 +31,10 @@ use Rattle.finder.specs.declared.Window.{Window}
 use Rattle.finder.specs.Samples.{most_steps, Good, steps_of}
 use Rattle.finder.specs.Spans.{list_of}
 use Rattle.finder.specs.Records.{records_of, found_of, room_of}
-use Rattle.job.specs.Table.{window_of, question_of, bad_window, bad_step, bad_question, no_room_of, rows_from_window, table_of}
-use Rattle.job.specs.Outcome.{answers_in, sights_in, outcome_from, records_from, outcome_of, records_in, list_after_of}
-use Rattle.job.proofs.Laws.{both, good, few-steps, one-or_two, roomy}
-use Rattle.job.proofs.Cases.{table_parts}
+use Rattle.job.specs.Table.{window_of, question_of, bad_window, bad_step, bad_question, no_room_of, room_row, rows_to_question, rows_from_window, table_of}
+use Rattle.job.specs.Outcome.{outcome_by, records_by, answers_in, sights_in, outcome_from, records_from, outcome_of, records_in, list_after_of}
+use Rattle.job.proofs.Laws.{both, good, let_through, few-steps, one-or_two, roomy}
+use Rattle.job.proofs.Cases.{table_parts, unread_refused, turned_away, let_in, elements_read}
 
 -- ---- the outcome and the verdict
 
@@ -208,3 +209,35 @@ module _ (s : List ℕ) (room : ℕ) where
 pub refused-keeps : (s list : List ℕ) (r : Refusal) → outcome_of s (length list) ≡ Err r → list_after_of s list ≡ list
 unfolding list_after_of records_in records_from
 refused-keeps s list r h = rw (refused-first s (length list) r h)
+
+-- ---- the job's answer, by what its parts answered
+
+module _ (s : List ℕ) where
+  pub unread_outcome : (room : ℕ) (r : Refusal) → reading_of s ≡ Err r → outcome_of s room ≡ Err r
+  unread_outcome room r h = first-refused s room r (unread_refused s room r h)
+
+  pub unread_bytes : (list : List ℕ) (r : Refusal) → reading_of s ≡ Err r → list_after_of s list ≡ list
+  unread_bytes list r h = refused-keeps s list r (unread_outcome (length list) r h)
+
+  module _ (e : Elements) (h : reading_of s ≡ Ok e) where
+    pub turned_outcome : (room : ℕ) (r : Refusal) → first (rows_to_question (window_of s) (question_of s)) ≡ Err r → outcome_of s room ≡ Err r
+    turned_outcome room r v = first-refused s room r (turned_away s room e h r v)
+
+    pub turned_bytes : (list : List ℕ) (r : Refusal) → first (rows_to_question (window_of s) (question_of s)) ≡ Err r → list_after_of s list ≡ list
+    turned_bytes list r v = refused-keeps s list r (turned_outcome (length list) r v)
+
+    module _ (v : first (rows_to_question (window_of s) (question_of s)) ≡ passed) where
+      pub let_in_outcome : (room : ℕ) → outcome_of s room ≡ outcome_by (room_row (window_of s) room) e (question_of s) (window_of s)
+      unfolding outcome_of
+      let_in_outcome room = rw (let_in s room e h v, elements_read s e h) refl
+
+      pub let_in_bytes : (list : List ℕ) → list_after_of s list ≡ sets list 0 (records_by (room_row (window_of s) (length list)) e (question_of s) (window_of s))
+      unfolding list_after_of records_in
+      let_in_bytes list = rw (let_in s (length list) e h v, elements_read s e h) refl
+
+-- and a window that rows 6 to 8 let through is a good one
+pub good_window : (w : Window) (q : ℕ) → first (rows_to_question w q) ≡ passed → Good w
+good_window w q h = (let_through w q h).0
+
+-- for the check
+pub ruleset answers = (unread_outcome, unread_bytes, turned_outcome, turned_bytes, let_in_outcome, let_in_bytes, reading.read_whole, good_window)

@@ -14,6 +14,7 @@ use Rattle.refusal.specs.Refusal.{number_of, field_of, zero, value_of, bits_of}
 use Rattle.refusal.specs.declared.Refusal.{Refusal}
 use Rattle.refusal.specs.declared.Refusal.TheVariants as refusal
 use Rattle.refusal.proofs.Order.{then-passed, when-passed, passed-exactly}
+use Rattle.elements.proofs.Bounds.{bounded}
 use Rattle.finder.specs.declared.Window.{Window}
 use Rattle.finder.specs.Samples.{last_end, longest_step, most_steps, Good, steps_of}
 use Rattle.finder.specs.Records.{room_of}
@@ -134,3 +135,8 @@ else_returns refusal.Window three four five = (refl, refl, refl)
 else_returns refusal.Step three four five = (refl, refl, refl)
 else_returns refusal.Question three four five = (refl, refl, refl)
 else_returns refusal.Room three four five = (refl, refl, refl)
+
+-- ---- before the list: the elements' whole numbers are bounded, and there is room
+
+-- for the check
+pub ruleset ready = (bounded, roomy)

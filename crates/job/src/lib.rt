@@ -99,8 +99,10 @@ fn no_room(w: Window, room: usize) -> bool
 
 // Row 9, and then the list. Room is asked behind the others, since only of a good window can the steps be counted. The sine table is made
 // here, once, and lent to all that reads it; so a refused job makes none.
+#[tactic(auto, using(crate::proofs::Laws::ready), unfolding(crate::specs::Outcome::outcome_from, crate::specs::Outcome::records_from))]
 fn from_room(e: Elements, question: u32, w: Window, list: &mut [u8]) -> Result<Found, Refusal>
-    requires { (Accepted e) × (Good w) }
+    requires accepted { Accepted e }
+    requires good { Good w }
     ensures value { result ≡ outcome_by (room_row w (length list.old)) e question w }
     ensures list_after { list.new ≡ sets list.old 0 (records_by (room_row w (length list.old)) e question w) }
 {
@@ -113,6 +115,7 @@ fn from_room(e: Elements, question: u32, w: Window, list: &mut [u8]) -> Result<F
 // ---- the job
 
 // One job: its intervals in `list` from byte 0, or the first refusal that applies and `list` as it was.
+#[tactic(auto, using(crate::proofs::Exactly::answers))]
 pub fn list(s: &[u8], list: &mut [u8]) -> Result<Found, Refusal>
     ensures value { result ≡ outcome_of s.now (length list.old) }
     ensures list_after { list.new ≡ list_after_of s.now list.old }
@@ -127,6 +130,7 @@ pub fn list(s: &[u8], list: &mut [u8]) -> Result<Found, Refusal>
 // ---- whether a record is accepted
 
 // A record's window, where every row but 9 lets it through.
+#[tactic(auto, using(crate::proofs::Cases::admits), unfolding(crate::specs::Admission::admission_of, crate::specs::Admission::admission_from))]
 pub fn admit(s: &[u8]) -> Result<Window, Refusal>
     ensures { result ≡ admission_of s.now }
 {

@@ -45,7 +45,7 @@ pub fn phase(period: u32, at: u64) -> Angle
     requires { Period period }
     ensures { result.units ≡ phase_of period at }
 {
-    let p = period as u64;
+    let p = u64::from(period);
     let units = (at % p * TURN / p) as u32;
     Angle { units }
 }

@@ -17,5 +17,5 @@ write-requires c = eqb-true _ _ (sym c.is_heard.ensures ∙ c.if-not-is_heard.fa
 
 pub returns : goal.returns
 returns c =
-    let m = heard_all c.args.answer.now (days_told c.args.«record».now c.args.list.now c.args.out.now) c.args.out.now (summary_after_of c.args.«record».now c.args.list.now c.args.out.now) (sym c.is_heard.ensures ∙ c.if-not-is_heard.false) (c.totals_answer.ensures ∙ ap totals_answer c.summary.ensures.value) c.summary.ensures.out_after c.write.ensures.answer_after c.write.ensures.answer_after_2 in
+    let m = heard_all c.args.answer.now (days_told c.args.«record».now c.args.list.now c.args.out.now) c.args.out.now (summary_after_of c.args.«record».now c.args.list.now c.args.out.now) (sym c.is_heard.ensures ∙ c.if-not-is_heard.false) (c.from.ensures ∙ ap totals_answer c.summary.ensures.value) c.summary.ensures.out_after c.write.ensures.answer_after c.write.ensures.reads_back in
     record { value = m.0; out_after = m.1.0; answer_after = m.1.1.0; reads_back = m.1.1.1 }

@@ -17,5 +17,5 @@ write-requires c = eqb-true _ _ (sym c.is_heard.ensures ∙ c.if-not-is_heard.fa
 
 pub returns : goal.returns
 returns c =
-    let m = heard_all c.args.answer.now (list_told c.args.«record».now c.args.list.now) c.args.list.now (list_after_of c.args.«record».now c.args.list.now) (sym c.is_heard.ensures ∙ c.if-not-is_heard.false) (c.answer_of.ensures ∙ ap answer_of c.list.ensures.value) c.list.ensures.list_after c.write.ensures.answer_after c.write.ensures.answer_after_2 in
+    let m = heard_all c.args.answer.now (list_told c.args.«record».now c.args.list.now) c.args.list.now (list_after_of c.args.«record».now c.args.list.now) (sym c.is_heard.ensures ∙ c.if-not-is_heard.false) (c.from.ensures ∙ ap answer_of c.list.ensures.value) c.list.ensures.list_after c.write.ensures.answer_after c.write.ensures.reads_back in
     record { value = m.0; list_after = m.1.0; answer_after = m.1.1.0; reads_back = m.1.1.1 }

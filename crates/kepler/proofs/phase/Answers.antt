@@ -4,4 +4,4 @@ use Rattle.kepler.proofs.phase.Goals as goal
 
 pub returns : goal.returns
 unfolding phase_of
-returns c = refl
+returns c = rw c.from-p.ensures refl

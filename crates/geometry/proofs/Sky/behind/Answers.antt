@@ -6,14 +6,13 @@ use native.Mathlib.Nat.{mul-le-mul, add-zero}
 use native.Mathlib.Omega.{arith}
 use borrow.Author.Tests.{lt-ltb, le-ltb, ltb-true, ltb-false}
 use lib.Dec.{T, ltb}
-use lib.IntN.{ℤ, pos, negsuc, nat_abs, ◌+ℤ◌, ◌-ℤ◌, ◌*ℤ◌, neg_ℤ}
+use lib.IntN.{ℤ, pos, negsuc, nat_abs, ◌+ℤ◌, ◌-ℤ◌, ◌*ℤ◌}
 use lib.Signed.{lt_z}
 use Rattle.fixed.specs.Within.{Within, Is}
-use Rattle.fixed.proofs.Machine.{loc, fit, held, operand, product, sum, negation, told}
+use Rattle.fixed.proofs.Machine.{loc, fit, held, back, operand, product, sum, told}
 use Rattle.elements.specs.Rounding.{most_axis}
 use Rattle.geometry.specs.declared.Orbit.{Orbit}
 use Rattle.geometry.specs.declared.Place.{Place}
-use Rattle.geometry.specs.Sound.{deepest}
 use Rattle.geometry.specs.Hidden.{behind_of}
 use Rattle.geometry.proofs.Sky.behind.Goals as goal
 
@@ -54,14 +53,6 @@ test : {s m s' m' : ℕ} (r : ℕ) → s ≡ s' → m ≡ m' → ltb s (r + m * 
 test r e f = cc
 
 -- ---- what the machine holds
--- d, below 0, negated
-opposite : (d : ℤ) → lt_z d (pos 0) ≡ true → neg_ℤ d ≡ pos (nat_abs d)
-opposite (pos n) e = absurd (let h = ltb-true n 0 e in omega arith)
-opposite (negsuc n) e = refl
-
-deep_is : {d : ℤ} → Within d deepest → lt_z d (pos 0) ≡ true → loc (pos 0 -ℤ loc d) ≡ pos (nat_abs d)
-deep_is {d} h e = (held (negation (operand h tt)) tt).is ∙ opposite d e
-
 squared : {z : ℤ} {n : ℕ} → Within z n → T (ltb n (2 ^ 63)) → Is (loc z *ℤ loc z) (z *ℤ z) (n * n)
 squared h t = product (operand h t) (operand h t)
 
@@ -86,7 +77,7 @@ returns-then-d-lt0 c =
     let o = c.self.inside.orbit in
     let below : lt_z c.args.d (pos 0) ≡ true = told (pos 0) c.ranges.d c.if-d-lt0.true in
     rw (← c.self.view_is)
-    (test o.ellipse.radius2 (ap nat_abs (plane-is c.requires.0.x c.requires.0.y)) (ap nat_abs (deep_is c.requires.1 below)) ∙ dark-side o c.args.a c.args.d below)
+    (test o.ellipse.radius2 (ap nat_abs (plane-is c.requires.0.x c.requires.0.y)) (c.unsigned_abs-deep.ensures.value ∙ ap nat_abs (back c.requires.1 tt)) ∙ dark-side o c.args.a c.args.d below)
 
 pub returns-else-d-lt0 : goal.returns-else-d-lt0
 returns-else-d-lt0 c = lit-side c.args.self.now c.args.a c.args.d (told (pos 0) c.ranges.d c.if-d-lt0.false)

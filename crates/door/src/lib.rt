@@ -13,12 +13,12 @@ use finder::Found;
 use refusal::Refusal;
 use words::Word;
 
-// What a call returns where an answer can be told, and where none can.
+// What a call returns where an answer can be told, and where none can: numbers, since C reads them.
 const TOLD: u32 = 1;
 
 const UNHEARD: u32 = 0;
 
-// What a caller is told beside the list or the summary.
+// What a caller is told beside the list or the summary: numbers, since C reads their bytes.
 #[derive(Clone, Copy)]
 pub struct Answer {
     pub refusal: u32,

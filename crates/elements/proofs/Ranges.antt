@@ -2,7 +2,7 @@
 use mathlib.Core.Path.{◌≡◌, refl, ap, ◌∙◌}
 use mathlib.Core.List.{List}
 use Prim.Native.Nat.{ℕ}
-use mathlib.Core.Bool.{Bool, true, false, ◌&&◌, ◌||◌, cond}
+use mathlib.Core.Bool.{Bool, true, false, ◌||◌, cond}
 use lib.Ieee.{Float, nan, inf, fin, le, lt, eq}
 use lib.Ieee.Scale.{finite}
 use Rattle.std.specs.Prelude.{Some, None}

@@ -13,7 +13,7 @@ use lib.Ieee.Scale.{finite}
 use Rattle.words.specs.Little.{read_of, Bytes}
 use Rattle.words.proofs.Laws.{read-lt}
 use Rattle.refusal.specs.Refusal.{order_of, field_of}
-use Rattle.std.specs.Prelude.{Ok, Err}
+use Rattle.std.specs.Prelude.{Err}
 use Rattle.refusal.specs.Rows.{Verdict, passed, when, row_at, Passes}
 use Rattle.refusal.specs.declared.Refusal.{Refusal}
 use Rattle.refusal.specs.declared.Refusal.TheVariants.{Length, Word, NotFinite, OutOfRange, TooClose, Window, Step, Question, Room}

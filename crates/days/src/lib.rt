@@ -1,11 +1,11 @@
 // Totals by day: a summary of a list, with a record for each day that the window touches, and its update by one interval more.
 #![tactic(auto)]
 
-ghost use Rattle.std.specs.Prelude.{◌*◌, ◌≡◌, not, [], length, take, Ok};
+ghost use Rattle.std.specs.Prelude.{◌*◌, ◌≤◌, ◌≡◌, not, [], length, take, Ok};
 ghost use Rattle.std.proofs.lemmas.List.Edits.{sets};
 ghost use Rattle.words.specs.Little.{Holds};
 ghost use Rattle.finder.specs.Samples.{Good};
-ghost use Rattle.days.specs.Days.{days_of};
+ghost use Rattle.days.specs.Days.{days_of, most_days};
 ghost use Rattle.days.specs.declared.Fault.TheVariants.{Job};
 ghost use Rattle.days.specs.Counts.{instants_under};
 ghost use Rattle.days.specs.Summary.{day_bytes, summary_of, updated};
@@ -107,10 +107,11 @@ pub fn told(t: Result<usize, Fault>) -> Numbers
 
 // ---- days
 
-// How many days the window touches.
+// How many days the window touches: few enough that 512 bytes are room for any summary.
 fn days(w: Window) -> usize
     requires { Good w }
-    ensures { result ≡ days_of w }
+    ensures value { result ≡ days_of w }
+    ensures few { result ≤ most_days }
 {
     (w.t1 / DAY - w.t0 / DAY + 1) as usize
 }

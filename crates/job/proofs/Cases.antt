@@ -6,11 +6,10 @@ use Rattle.std.specs.Prelude.{Ok, Err}
 use Rattle.refusal.specs.Rows.{passed, ◌then◌, first}
 use Rattle.refusal.specs.declared.Refusal.{Refusal}
 use Rattle.refusal.proofs.Order.{first-append, first-last, stops, goes, first-exactly, passed-exactly}
-use Rattle.elements.specs.Reading.{record_rows, reading_of}
+use Rattle.elements.specs.Reading.{elements_of, record_rows, reading_of}
 use Rattle.elements.specs.declared.reading.Elements.{Elements}
 use Rattle.elements.proofs.Rows.{ordered}
 use Rattle.elements.proofs.Exactly.{read-exactly, refused-exactly, read_whole}
-use Rattle.elements.specs.Reading.{elements_of}
 use Rattle.finder.specs.declared.Window.{Window}
 use Rattle.job.specs.Table.{window_of, question_of, room_row, rows_to_question, rows_from_window, table_of, table_but_room}
 
@@ -37,9 +36,11 @@ module _ (s : List ℕ) where
   pub unread : (r : Refusal) → reading_of s ≡ Err r → first (record_rows s) ≡ Err r
   unread r h = (first-exactly (record_rows s) (ordered s) r).1 ((refused-exactly s r).0 h)
 
+  -- and one that is read has passed them
   pub was_read : (e : Elements) → reading_of s ≡ Ok e → first (record_rows s) ≡ passed
   was_read e h = (passed-exactly (record_rows s)).1 ((read-exactly s e).0 h).0
 
+  -- and then the elements are the record's
   pub elements_read : (e : Elements) → reading_of s ≡ Ok e → e ≡ elements_of s
   elements_read e h = ((read-exactly s e).0 h).1
 
@@ -59,11 +60,12 @@ module _ (s : List ℕ) where
       pub let_in : first (rows_to_question (window_of s) (question_of s)) ≡ passed → first (table_of s room) ≡ room_row (window_of s) room
       let_in v = goes _ _ _ from_window v
 
+  -- so it is where no list is written
   pub unread_away : (r : Refusal) → reading_of s ≡ Err r → first (table_but_room s) ≡ Err r
   unread_away r h = stops _ _ _ (admit_parts s) r (unread r h)
 
   pub read_so : (e : Elements) → reading_of s ≡ Ok e → first (table_but_room s) ≡ first (rows_to_question (window_of s) (question_of s))
   read_so e h = goes _ _ _ (admit_parts s) (was_read e h)
 
--- for the check
+-- for the check of `admit`
 pub ruleset admits = (unread_away, read_so, read_whole)

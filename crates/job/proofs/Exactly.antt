@@ -239,5 +239,5 @@ module _ (s : List ℕ) where
 pub good_window : (w : Window) (q : ℕ) → first (rows_to_question w q) ≡ passed → Good w
 good_window w q h = (let_through w q h).0
 
--- for the check
+-- for the check of `list`
 pub ruleset answers = (unread_outcome, unread_bytes, turned_outcome, turned_bytes, let_in_outcome, let_in_bytes, reading.read_whole, good_window)

@@ -47,7 +47,7 @@ pub decided : (v : Verdict) → first (v ∷ []) ≡ v
 unfolding first
 decided v = then-passed v
 
--- for the check
+-- for the check of `window_to_question`
 pub ruleset rows = (stopped, handed_on, decided)
 
 -- ---- steps
@@ -136,7 +136,7 @@ else_returns refusal.Step three four five = (refl, refl, refl)
 else_returns refusal.Question three four five = (refl, refl, refl)
 else_returns refusal.Room three four five = (refl, refl, refl)
 
--- ---- before the list: the elements' whole numbers are bounded, and there is room
+-- ---- before the list
 
--- for the check
+-- the elements' whole numbers are bounded, and there is room: for the check of `from_room`
 pub ruleset ready = (bounded, roomy)

@@ -10,7 +10,7 @@ use Rattle.finder.specs.declared.Window.{Window}
 use Rattle.finder.specs.Samples.{Good}
 use Rattle.days.specs.Days.{days_of}
 use Rattle.days.specs.Given.{bad_append}
-use Rattle.days.proofs.Cases.{days-most, Follows, good-append, answer-short, answer_bad, answer-written}
+use Rattle.days.proofs.Cases.{Follows, good-append, answer-short, answer_bad, answer-written}
 use Rattle.days.proofs.append_in.Goals as goal
 
 -- what follows is not bad, so it awaits
@@ -24,26 +24,23 @@ module _ (w : Window) (list piece out : List ℕ) {n : ℕ} {b : Bool} (g : Good
   awaits : b ≡ true → Follows w list piece out
   awaits on = good-append w list piece out g (good on)
 
-pub overflow_mul-used : goal.overflow_mul-used
-overflow_mul-used c = omega (arith, c.days-n.ensures, days-most _ c.requires)
-
 pub returns-then-out-used : goal.returns-then-out-used
-returns-then-out-used c = record { value = answer-short _ _ _ (omega (arith, c.days-n.ensures)); out_after = refl }
+returns-then-out-used c = record { value = answer-short _ _ _ (omega (arith, c.days-n.ensures.value)); out_after = refl }
 
 pub returns-then-not-follows : goal.returns-then-not-follows
 returns-then-not-follows c =
-    record { value = answer_bad _ _ _ (omega (arith, c.days-n.ensures)) (bad _ _ _ c.args.out.now c.requires c.days-n.ensures c.follows.ensures c.if-not-follows.true); out_after = refl }
+    record { value = answer_bad _ _ _ (omega (arith, c.days-n.ensures.value)) (bad _ _ _ c.args.out.now c.requires c.days-n.ensures.value c.follows.ensures c.if-not-follows.true); out_after = refl }
 
 pub read-requires : goal.read-requires
-read-requires c = (awaits _ _ _ c.args.out.now c.requires c.days-n.ensures c.follows.ensures c.if-not-follows.false).one
+read-requires c = (awaits _ _ _ c.args.out.now c.requires c.days-n.ensures.value c.follows.ensures c.if-not-follows.false).one
 
 pub add-requires : goal.add-requires
-add-requires c = (_, rw (← c.read.ensures) at (awaits _ _ _ c.args.out.now c.requires c.days-n.ensures c.follows.ensures c.if-not-follows.false).awaits)
+add-requires c = (_, rw (← c.read.ensures) at (awaits _ _ _ c.args.out.now c.requires c.days-n.ensures.value c.follows.ensures c.if-not-follows.false).awaits)
 
 pub returns : goal.returns
 returns c =
-    let follows = awaits _ _ _ c.args.out.now c.requires c.days-n.ensures c.follows.ensures c.if-not-follows.false in
+    let follows = awaits _ _ _ c.args.out.now c.requires c.days-n.ensures.value c.follows.ensures c.if-not-follows.false in
     record {
-      value = answer-written _ _ _ c.days-n.ensures (omega (arith, c.days-n.ensures)) (good _ _ _ c.args.out.now c.requires c.days-n.ensures c.follows.ensures c.if-not-follows.false);
+      value = answer-written _ _ _ c.days-n.ensures.value (omega (arith, c.days-n.ensures.value)) (good _ _ _ c.args.out.now c.requires c.days-n.ensures.value c.follows.ensures c.if-not-follows.false);
       out_after = rw c.read.ensures at (c.add.ensures _ (rw (← c.read.ensures) at follows.awaits));
     }

@@ -11,7 +11,7 @@ loop-i-init c = refl
 
 pub overflow_cast-start : goal.overflow_cast-start
 unfolding days_between day_of
-overflow_cast-start c = omega (arith, c.days-i-end.ensures, c.requires.good.end)
+overflow_cast-start c = omega (arith, c.days-i-end.ensures.value, c.requires.good.end)
 
 pub loop-i-preserved : goal.loop-i-preserved
 loop-i-preserved c = none_more _ _ _ c.loop-i.invariant c.put_day.ensures
@@ -20,4 +20,4 @@ pub returns : goal.returns
 unfolding summary_of day_of
 returns c =
     let all : c.loop-i.i ≡ c.days-i-end.result = omega arith in
-    rw (all, c.days-i-end.ensures) at c.loop-i.invariant
+    rw (all, c.days-i-end.ensures.value) at c.loop-i.invariant

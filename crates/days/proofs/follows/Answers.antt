@@ -1,16 +1,11 @@
 -- `days::follows` meets its contract: each cause of refusal 12 by itself.
 use mathlib.Core.Path.{refl, sym, ◌∙◌}
-use native.Mathlib.Omega.{arith}
 use Prim.Native.Nat.{◌*◌}
 use lib.ListN.{take}
-use lib.Seq.{length-take-le}
-use Rattle.days.proofs.Cases.{days-most, has_room, worked-summary, told_bad, told-good, list_bad, piece_bad, next_bad, else_same}
+use Rattle.days.proofs.Cases.{has_room, worked-summary, told_bad, told-good, list_bad, piece_bad, next_bad, else_same}
 use Rattle.days.proofs.Sames.{pointwise-same}
 use Rattle.days.proofs.follows.Goals as goal
 use Rattle.days.proofs.follows.Goals.{then-piece-ne-INTERVAL-via-then-piece-ne-INTERVAL, then-piece-ne-INTERVAL-via-else-piece-ne-INTERVAL+then-is_bad}
-
-pub overflow_mul-used : goal.overflow_mul-used
-overflow_mul-used c = omega (arith, c.days-used.ensures, days-most _ c.requires)
 
 pub work_out-requires : goal.work_out-requires
 work_out-requires c = has_room _ _ c.requires refl
@@ -27,15 +22,9 @@ returns-then-piece-ne-INTERVAL c =
           next_bad _ _ _ _ w.if-piece-ne-INTERVAL.false (rw (w.read.ensures, told.1) at (sym w.is_bad.ensures ∙ w.if-is_bad.true))
     ]
 
-pub slice_bounds-own-end : goal.slice_bounds-own-end
-slice_bounds-own-end c = omega (arith, c.days-used.ensures, days-most _ c.requires)
-
-pub slice_bounds-eq-end : goal.slice_bounds-eq-end
-slice_bounds-eq-end c = sym (length-take-le _ _ (omega (arith, c.days-used.ensures, days-most _ c.requires)))
-
 pub returns : goal.returns
 returns c =
     let told = told-good _ _ _ (sym c.work_out.ensures.value ∙ c.in-Some.is) in
-    let own = worked-summary c.args.w c.args.list.now _ _ c.work_out.ensures.summed_up told.0 c.requires refl c.days-used.ensures in
+    let own = worked-summary c.args.w c.args.list.now _ _ c.work_out.ensures.summed_up told.0 c.requires refl c.days-used.ensures.value in
     let good = rw (c.read.ensures, told.1) at (sym c.is_bad.ensures ∙ c.if-is_bad.false) in
     c.eq.ensures ∙ pointwise-same c.args.summary.now (take (16 * c.days-used.result) c.work_out.new.own) ∙ rw own (else_same _ _ _ _ c.if-piece-ne-INTERVAL.false told.0 good)

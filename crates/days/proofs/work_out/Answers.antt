@@ -8,7 +8,7 @@ use Rattle.finder.specs.Spans.{Span}
 use Rattle.days.specs.Given.{span_at}
 use Rattle.days.proofs.Orderly.{good-span}
 use Rattle.days.proofs.Pieces.{next-piece, pieces-end}
-use Rattle.days.proofs.Working.{blank-room, blank-behind, work_start, work_awaits, work_more, work_bad, work_halves, work_done, worked_bad}
+use Rattle.days.proofs.Working.{blank-room, blank-behind, work_start, work_more, work_bad, work_halves, work_done, worked_bad}
 use Rattle.days.proofs.work_out.Goals as goal
 use Rattle.days.proofs.work_out.Goals.{In-Some}
 
@@ -27,14 +27,6 @@ pub loop-piece-init : goal.loop-piece-init
 loop-piece-init c =
     let same = c.into_iter-piece-iterator.ensures.into_iter_gives in
     (work_start c.requires c.blank.ensures _, ap chunks_exact_size same ∙ c.chunks_exact-piece-items.ensures.size, ap chunks_exact_rest same ∙ c.chunks_exact-piece-items.ensures.rest)
-
-pub read-s-requires : goal.read-s-requires
-read-s-requires c = c.in-Some.ensures.steps.1.1 ∙ c.loop-piece.invariant.1
-
-pub add-requires : goal.add-requires
-add-requires c =
-    let piece = came (goal.at.add-requires c).In-Some in
-    (_, work_awaits (blank-room c.requires c.blank.ensures) c.loop-piece.invariant.0 (c.read-s.ensures ∙ piece.0) (sym c.is_bad.ensures ∙ c.if-is_bad.false))
 
 pub returns-then-is_bad : goal.returns-then-is_bad
 returns-then-is_bad c =

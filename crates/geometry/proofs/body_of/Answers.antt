@@ -30,10 +30,10 @@ small : (w : Wholes) (k : ℕ) {m : List (List ℤ)} {e : List ℤ} → k < 2 �
 small w k h f g = (rw f (row-entries (row_within w k h)), rw g (wider-entries (toward-entries w) (lit≤ tt)))
 
 pub dot-requires : goal.dot-requires
-dot-requires c = small _ 0 (lit< tt) c.rotation_of-m.ensures c.toward-e.ensures
+dot-requires c = small _ _ (lit< tt) c.rotation_of-m.ensures c.toward-e.ensures
 
 pub dot-requires-2 : goal.dot-requires-2
-dot-requires-2 c = small _ 1 (lit< tt) c.rotation_of-m.ensures c.toward-e.ensures
+dot-requires-2 c = small _ _ (lit< tt) c.rotation_of-m.ensures c.toward-e.ensures
 
 pub returns : goal.returns
 unfolding body_of

@@ -4,7 +4,7 @@ use Prim.Native.Nat.{◌+◌, ◌*◌}
 use lib.IntN.{ℤ, pos, ◌-ℤ◌}
 use Rattle.fixed.specs.Scaled.{one}
 use Rattle.fixed.specs.Within.{Is}
-use Rattle.fixed.proofs.Machine.{loc, fit, held, called, operand, product, difference, scaled-is}
+use Rattle.fixed.proofs.Machine.{bounded, loc, fit, held, called, operand, product, difference, scaled-is}
 use Rattle.nearest.specs.Nearest.{most_eccentric}
 use Rattle.sine.specs.Sine.{sine_of, cosine_of}
 use Rattle.sine.proofs.Laws.{sine-small, cosine-small}
@@ -42,7 +42,11 @@ scaled-x-requires c = fit (product (operand c.self.invariant.ellipse.axis tt) (h
 
 -- half of either axis times sin E fits
 pub scaled-y-requires : goal.scaled-y-requires
-scaled-y-requires c = fit (product (operand c.self.invariant.ellipse.minor tt) (sine-is (goal.at.scaled-y-requires c).After-sine-sin)) tt
+scaled-y-requires c =
+    let axis = (operand c.self.invariant.ellipse.axis tt).bound in
+    let minor = (operand c.self.invariant.ellipse.minor tt).bound in
+    let sin = (sine-is (goal.at.scaled-y-requires c).After-sine-sin).bound in
+    search bounded
 
 pub returns : goal.returns
 unfolding place_of

@@ -7,7 +7,8 @@ ghost use Rattle.interval.specs.Record.{write_of, parsed_of};
 
 use words::Word;
 
-// An interval of a list, both of whose instants belong to it; or what closes a job's intervals. Its flags stay one number of bits: they are the record's, which C reads.
+// An interval of a list, both of whose instants belong to it; or what closes a job's intervals. Its flags stay one number of bits: they are the
+// record's, which C reads.
 #[derive(Clone, Copy, Debug, PartialEq, Eq)]
 pub struct Interval {
     pub job: u32,

@@ -28,7 +28,8 @@ const LONGEST_STEP: u64 = 1_048_576;
 
 const MOST_STEPS: u64 = 4096;
 
-// A record's question. That the record is whole stays a clause: `read` shows it and answers with the floats alone, so an array would be made anew here, and be no plainer.
+// A record's question. That the record is whole stays a clause: `read` shows it and answers with the floats alone, so an array would be made anew
+// here, and be no plainer.
 fn question(s: &[u8]) -> u32
     requires { WholeRecord s.now }
     ensures { result ≡ question_of s.now }

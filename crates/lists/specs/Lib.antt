@@ -1,3 +1,2 @@
--- What stands in the program's two buffers.
+-- What stands in the buffer that is written.
 pub mod Replies
-pub mod Buffer

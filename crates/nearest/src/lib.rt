@@ -1,5 +1,5 @@
-// The nearest whole number to a float times p / q. The exact size of a float is read off its bits: digits over a power of two.
-// The doubled product is floored, and then halved upward. How large x may be is a clause: each function has a bound of its own, and a type for each would be no plainer.
+// The nearest whole number to a float times p / q. The exact size of a float is read off its bits: digits over a power of two. The doubled product is
+// floored, and then halved upward. How large x may be is a clause: each function has a bound of its own, and a type for each would be no plainer.
 #![tactic(auto)]
 
 ghost use Rattle.std.specs.Prelude.{◌≡◌, ◌+◌, ◌/◌, ◌^◌};

@@ -1,5 +1,5 @@
 -- What the program writes for one record: a head record, then a summary record for each day (document 02, wish 3).
-use Rattle.std.specs.Prelude.{ℕ, ◌+◌, ◌*◌, ◌≤◌, ◌<◌, ◌≡◌, List, ◌++◌, length, Ok, Err}
+use Rattle.std.specs.Prelude.{ℕ, List, ◌++◌, Ok, Err}
 use Rattle.interval.specs.declared.Interval.{Interval}
 use Rattle.interval.specs.Record.{record_bytes}
 use Rattle.finder.specs.Spans.{list_of}
@@ -7,7 +7,7 @@ use Rattle.finder.specs.Records.{room_for_any}
 use Rattle.job.specs.Table.{window_of}
 use Rattle.job.specs.Outcome.{Outcome, answers_in, outcome_of}
 use Rattle.job.specs.Reply.{job_of, closing_of}
-use Rattle.days.specs.Days.{days_of, most_days}
+use Rattle.days.specs.Days.{days_of}
 use Rattle.days.specs.Summary.{summary_of}
 
 -- the head: job, 512, number of days, instants asked
@@ -22,17 +22,3 @@ reply_by s (Err r) = record_bytes (closing_of (job_of s) (Err r))
 -- with room for any list, so that no job is refused for want of it
 unfoldable pub reply_of : List ℕ → List ℕ
 reply_of s = reply_by s (outcome_of s room_for_any)
-
--- ---- what the functions require
-
--- the lent list has room for any
-abbrev pub HoldsAnyList : List ℕ → Type 0
-HoldsAnyList list = length list ≡ room_for_any
-
--- room for any reply: the head's 24 bytes, and 16 for each day
-abbrev pub HoldsAnyReply : List ℕ → Type 0
-HoldsAnyReply out = 24 + 16 * most_days ≤ length out
-
--- a buffer for one record, of which fewer bytes are kept than it has
-abbrev pub Kept : ℕ → List ℕ → Type 0
-Kept kept buf = (kept < 136) × (length buf ≡ 136)

@@ -32,7 +32,7 @@ pub struct Found {
     pub asked: u64,
 }
 
-// The interval that is open: its first instant, and its flags for that.
+// The interval that is open: its first instant, and its flags for that, bits as the record has them.
 #[derive(Clone, Copy)]
 struct Begun {
     pub first: u64,
@@ -65,7 +65,7 @@ fn bit(value: u32, differs: bool) -> u32
     if differs { value } else { 0 }
 }
 
-// A question about a sky, asked over a window.
+// A question about a sky, asked over a window. The question is a number since `list` answers any.
 #[derive(Drop)]
 struct Finder<'a> {
     sky: &'a Sky<'a>,

@@ -143,7 +143,7 @@ pub fn admit(s: &[u8]) -> Result<Window, Refusal>
 
 // ---- what the program writes for a record
 
-// The job number of a whole record; any other piece has none.
+// The job number of a whole record; any other piece has none, which the closing record writes as 0.
 #[tactic(auto, unfolding(crate::specs::Reply::job_of))]
 pub fn job_number(s: &[u8]) -> u32
     ensures { result ≡ job_of s.now }

@@ -64,7 +64,8 @@ pub fn thousandths(x: f64) -> u32
     halved(shifted(digits(bits) * 2000, shift(bits))) as u32
 }
 
-// An eccentricity in units of 2^-30.
+// An eccentricity in units of 2^-30. This and the next function are each one call of `by_power`: one function of both would take numbers where a name
+// says which unit, and be no plainer.
 pub fn eccentricity(x: f64) -> u32
     requires { UpTo 0 x }
     ensures { result ≡ eccentricity_of x }

@@ -58,7 +58,8 @@ fn row_p(peri: Turn, node: Turn, incl: Turn) -> [i64; 3]
     ]
 }
 
-// Row Q, a quarter turn on in the orbit.
+// Row Q, a quarter turn on in the orbit. It is not P of other turns: a product is floored, so minus stands outside. The three turns stay three
+// parameters, since a struct of them would be made for one call.
 fn row_q(peri: Turn, node: Turn, incl: Turn) -> [i64; 3]
     ensures { result ≡ row_q peri node incl }
 {

@@ -66,6 +66,7 @@ pub struct Sight {
 }
 
 // A job's orbit with the sine table that reads it. Its numbers are as small as those of accepted elements.
+#[derive(Drop)]
 pub struct Sky<'a> {
     pub sines: &'a Sines,
     pub orbit: Orbit,

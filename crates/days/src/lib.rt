@@ -73,7 +73,7 @@ const DAY_RECORD: usize = 16;
 // Room for any summary: a window touches at most 32 days.
 const ANY_SUMMARY: usize = 512;
 
-// An answer in numbers.
+// An answer in numbers. A function and no `From`, since it is public and stays what it was.
 pub fn told(t: Result<usize, Fault>) -> Numbers
     ensures { result ≡ numbers_of t }
 {
@@ -187,8 +187,9 @@ fn add(w: Window, out: &mut [u8], s: Span)
 
 // ---- what is given
 
-// The list is gone through once: each interval is looked at, and added to the summary in `own`. Of a good list it tells where an interval
-// behind it may begin.
+// The list is gone through once: each interval is looked at, and added to the summary in `own`, which has room for any, since memory is fixed. The
+// list is the caller's bytes for this window and may not be one of it, so no type has both. Of a good list it tells where an interval behind it may
+// begin.
 fn work_out(w: Window, list: &[u8], own: &mut [u8]) -> Option<u64>
     requires { HasRoom w own.old }
     ensures value { result ≡ worked_of w list.now }

@@ -88,6 +88,8 @@ fn write(answer: &mut [u8], a: Answer)
     a.asked.put(answer, 24);
 }
 
+// Each of the three functions asks, tells and returns in the same words, since C calls them by their names.
+
 // One job: its intervals in `list` from byte 0, or why it is turned away and `list` as it was; what came of it in `answer`, and 1. Where
 // `answer` is not 32 bytes nothing is written, and it returns 0.
 pub fn quechotzal_list(record: &[u8], list: &mut [u8], answer: &mut [u8]) -> u32

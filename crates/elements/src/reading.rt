@@ -55,7 +55,7 @@ fn word_row(s: &[u8; RECORD]) -> Result<(), Refusal>
     row(u32::read(s, 4) != 0, Refusal::Word)
 }
 
-// Fields 1 to 7, in number order.
+// Fields 1 to 7, in number order. The bytes go along with their floats for refusal 3 alone, so no type has both.
 fn orbit(s: &[u8; RECORD], e: Elements) -> Result<(), Refusal>
     ensures { result ≡ first (take 7 (field_rows s.now e)) }
 {

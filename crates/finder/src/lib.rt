@@ -32,15 +32,15 @@ pub struct Found {
     pub asked: u64,
 }
 
-// The interval that is open: its first instant, and its flags for that, bits as the record has them.
+// The interval that is open: its first instant, and its flags for that, bits in one number as `first_flags` gives them to the record.
 #[derive(Clone, Copy)]
 struct Begun {
     pub first: u64,
     pub flags: u32,
 }
 
-// The finder has come to the sample `at`; where that answered yes, an interval has begun. So far it wrote `count` intervals and asked `asked`
-// instants.
+// The finder has come to the sample `at`; where that answered yes, an interval has begun. So far it wrote `count` intervals into the caller's fixed
+// memory and asked `asked` instants.
 #[derive(Clone, Copy)]
 struct State {
     pub at: u64,

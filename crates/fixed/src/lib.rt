@@ -70,7 +70,7 @@ pub fn dot(p: [i64; 3], e: [i64; 3]) -> i64
 
 // The whole square root of any u64, by its 32 binary digits, the highest first. `rest` is n less the square of the digits found so far. One digit
 // more makes that square grow by `bit`, the digit's own square, and by `root`, twice its product with those found; shifts take both on to the next
-// digit. Behind the last one `root` is left with the digits themselves.
+// digit. Behind the last one `root` is left with the digits themselves. The loop ends when `bit` has been shifted out, so nothing is counted.
 pub fn whole_root(n: u64) -> u64
     ensures { result ≡ root_of n }
 {

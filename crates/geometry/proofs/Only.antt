@@ -6,8 +6,8 @@ use Rattle.geometry.proofs.Sky.new.Kinds as prepare
 use Rattle.geometry.proofs.Sky.new.Reads as prepare-reads
 use Rattle.geometry.proofs.Sky.place.Kinds as place
 use Rattle.geometry.proofs.Sky.place.Reads as place-reads
-use Rattle.geometry.proofs.Sky.depth.Kinds as depth
-use Rattle.geometry.proofs.Sky.depth.Reads as depth-reads
+use Rattle.geometry.proofs.Orbit.depth.Kinds as depth
+use Rattle.geometry.proofs.Orbit.depth.Reads as depth-reads
 use Rattle.geometry.proofs.Sky.hidden.Kinds as hidden
 use Rattle.geometry.proofs.Sky.hidden.Reads as hidden-reads
 use Rattle.geometry.proofs.Sky.up.Kinds as up
@@ -26,7 +26,7 @@ prepare_only κs a x y s t p q = by_value _ p q
 pub place_of_only : OneResult 2 place.ps place.r place-reads.Post
 place_of_only κs a x y s t p q = by_value _ p.0 q.0
 
-pub depth_only : OneResult 2 depth.ps depth.r depth-reads.Post
+pub depth_only : OneResult 1 depth.ps depth.r depth-reads.Post
 depth_only κs a x y s t p q = by_value _ p q
 
 pub hidden_only : OneResult 2 hidden.ps hidden.r hidden-reads.Post

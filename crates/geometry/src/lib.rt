@@ -65,6 +65,17 @@ pub struct Sight {
     pub up: bool,
 }
 
+impl Orbit {
+    // d: how far a place lies toward the far body. That the place is this orbit's stays a clause, since no type of a place says of which.
+    pub fn depth(&self, a: Place) -> i64
+        requires { InOrbit self.now a }
+        ensures { result ≡ depth_of self.now a }
+    {
+        let b = self.body;
+        fixed::scaled(a.x, b.p) + fixed::scaled(a.y, b.q)
+    }
+}
+
 // A job's orbit with the sine table that reads it. Its numbers are as small as those of accepted elements.
 #[derive(Drop)]
 pub struct Sky<'a> {
@@ -205,15 +216,6 @@ impl<'a> Sky<'a> {
         Place { x, y }
     }
 
-    // d: how far a place lies toward the far body.
-    pub fn depth(&self, a: Place) -> i64
-        requires { InOrbit self.now a }
-        ensures { result ≡ depth_of self.now a }
-    {
-        let b = self.orbit.body;
-        fixed::scaled(a.x, b.p) + fixed::scaled(a.y, b.q)
-    }
-
     // Whether a place at depth d is hidden: d² goes to the other side, where it fits 64 bits.
     fn behind(&self, a: Place, d: i64) -> bool
         requires { (InOrbit self.now a) × (Within d deepest) }
@@ -233,7 +235,7 @@ impl<'a> Sky<'a> {
         ensures { result ≡ hidden_at self.now at }
     {
         let a = self.place(at);
-        self.behind(a, self.depth(a))
+        self.behind(a, self.orbit.depth(a))
     }
 
     // u, the station's zenith at an instant.

@@ -14,7 +14,7 @@ use words::Word;
 fn line(rt: &impl Print, sky: &Sky, at: u64) -> io::Result<()> {
     let place = sky.place(at);
     let Place { x, y } = place;
-    let depth = sky.depth(place);
+    let depth = sky.orbit.depth(place);
     let seen = if sky.hidden(at) { "hidden" } else { "seen" };
     let up = if sky.up(at) { "up" } else { "down" };
     println!(rt; "{at} {x} {y} {depth} {seen} {up}")

@@ -69,7 +69,7 @@ fn bad_step(w: Window) -> bool
     w.step == 0 || LONGEST_STEP < w.step || MOST_STEPS * w.step < w.t1.saturating_sub(w.t0)
 }
 
-// Neither 1 nor 2.
+// Neither 1 nor 2. Behind this row the question stays a number, as `finder::list` takes it.
 #[tactic(auto, unfolding(crate::specs::Table::bad_question))]
 fn bad_question(question: u32) -> bool
     ensures { result ≡ bad_question question }

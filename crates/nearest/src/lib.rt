@@ -17,7 +17,7 @@ fn shifted(n: u64, k: u64) -> u64
 fn halved(n: u64) -> u64
     ensures { result ≡ (n + 1) / 2 }
 {
-    n / 2 + n % 2
+    n.div_ceil(2)
 }
 
 // The digits of a float's size, the leading one included.

@@ -14,10 +14,10 @@ of-place o e f = cc
 pub behind-requires : goal.behind-requires
 behind-requires c =
     let here = c.place-a.ensures.in_orbit in
-    (here, rw (got c.depth.result c.depth.type_inv, c.depth.ensures) (depth-within here))
+    (here, rw (got c.depth.result c.depth.type_inv, c.depth.ensures, c.self.view_is) (depth-within here))
 
 pub returns : goal.returns
 unfolding hidden_at
 returns c =
-    let at-depth = got c.depth.result c.depth.type_inv ∙ c.depth.ensures in
+    let at-depth = got c.depth.result c.depth.type_inv ∙ rw c.self.view_is at c.depth.ensures in
     c.behind.ensures ∙ of-place c.args.self.now c.place-a.ensures.place at-depth

@@ -58,7 +58,7 @@ pub fn steps(w: Window) -> u64
     (w.t1 - w.t0).div_ceil(w.step)
 }
 
-// A bit, where an answer differs.
+// A bit, where an answer differs. The choice is the definitions' `cond`; a product with `u32::from` would be no plainer.
 fn bit(value: u32, differs: bool) -> u32
     ensures { result ≡ cond differs value 0 }
 {

@@ -6,7 +6,7 @@ use Rattle.angle.specs.Turn.{turn}
 use Rattle.kepler.specs.declared.Bracket.{Bracket}
 use Rattle.kepler.specs.Kepler.{reached, search_of}
 
--- below a whole turn, which is all that is said of a guess
+-- below a whole turn, as a guess and M are, being a u32 each
 abbrev pub InTurn : ℕ → Type 0
 InTurn g = g < turn
 

@@ -7,7 +7,7 @@ ghost use Rattle.halving.specs.Foretold.{YesUpTo, NoFrom};
 ghost use Rattle.fixed.specs.Within.{Is};
 ghost use Rattle.angle.specs.Turn.{turn};
 ghost use Rattle.kepler.specs.Kepler.{Period, phase_of, Eccentricity, UpToATurn, K, most_mean, reached, kepler_of};
-ghost use Rattle.kepler.specs.Shortcut.{InTurn, Halvings, cell_at, GoesOnIn};
+ghost use Rattle.kepler.specs.Shortcut.{Halvings, cell_at, GoesOnIn};
 
 use angle::Angle;
 use halving::Search;
@@ -22,7 +22,7 @@ const LAST: i64 = TURN as i64 - 1;
 const RADIAN: i64 = 683_565_276;
 
 // Between two entries of the sine table K is straight, but for its floors.
-const SEGMENT: u64 = sine::SEGMENT as u64;
+const SEGMENT: u32 = sine::SEGMENT;
 
 // How often a guess is bettered at most.
 const TRIALS: u32 = 8;
@@ -50,15 +50,14 @@ pub fn phase(period: u32, at: u64) -> Angle
     Angle { units }
 }
 
-// Kepler's equation for one instant: e and M, with the sine table by which K is read. An anomaly stays a plain number: sums go beyond
-// a turn, so a type of those up to a turn would be left at each step, and be no plainer than a clause.
+// Kepler's equation for one instant: e and M, with the sine table by which K is read. What K is asked at stays a plain number with the
+// clause `UpToATurn`: sums go beyond a turn, so a type of those up to a turn would be left at each step, and be no plainer.
 #[derive(Drop)]
 struct Equation<'a> {
     sines: &'a Sines,
     eccentricity: u32,
     mean: Angle,
     ghost bounded: { Eccentricity eccentricity },
-    ghost in_turn: { InTurn mean.units },
 }
 
 // Whether the low end moves to E: K(E) ≤ M.
@@ -91,12 +90,10 @@ impl Equation<'_> {
     // It is not trusted: whatever it is, the search finds the same E, but a good one leaves little of it to be made.
 
     // An eighth of a turn times e from M, on the side where E is: E is e·sin E radians from M, and this takes one shift.
-    fn start(&self) -> u64
-        ensures { InTurn result }
-    {
-        let away = u64::from(self.eccentricity / 2);
-        let units = u64::from(self.mean.units);
-        if self.mean.units < Angle::HALF.units {
+    fn start(&self) -> u32 {
+        let away = self.eccentricity / 2;
+        let units = self.mean.units;
+        if units < Angle::HALF.units {
             units + away
         } else {
             units - away
@@ -104,24 +101,19 @@ impl Equation<'_> {
     }
 
     // Where K would be M, if it went on as in the segment that holds `at`; `at` itself if it does not rise there.
-    fn nearer(&self, at: u64) -> u64
-        requires { InTurn at }
-        ensures { InTurn result }
-    {
-        let low = at - at % SEGMENT;
+    fn nearer(&self, at: u32) -> u32 {
+        let low = u64::from(at - at % SEGMENT);
         let here = self.k(low);
-        let rise = self.k(low + SEGMENT) - here;
+        let rise = self.k(low + u64::from(SEGMENT)) - here;
         if rise <= 0 {
             return at;
         }
         let missing = i64::from(self.mean.units) - here;
-        in_turn(low as i64 + fixed::floor_div(missing * (SEGMENT as i64), rise as u64))
+        in_turn(low as i64 + fixed::floor_div(missing * i64::from(SEGMENT), rise as u64))
     }
 
     // Nearer and nearer, until it stays in its segment or the trials are over.
-    fn guess(&self) -> u64
-        ensures { InTurn result }
-    {
+    fn guess(&self) -> u32 {
         let mut at = self.start();
         for _ in 0..TRIALS {
             let next = self.nearer(at);
@@ -142,7 +134,8 @@ impl Equation<'_> {
         requires { UpToATurn low }
         ensures { result ≡ true → YesUpTo (reached self.now.eccentricity self.now.mean.units) low }
     {
-        low == 0 || self.k(low) + FALL <= i64::from(self.mean.units)
+        let mean = i64::from(self.mean.units);
+        low == 0 || self.k(low) + FALL <= mean
     }
 
     // Whether surely nothing that the search may ask from `high` on is reached. From a turn on it asks nothing.
@@ -150,13 +143,13 @@ impl Equation<'_> {
         requires { UpToATurn high }
         ensures { result ≡ true → NoFrom (reached self.now.eccentricity self.now.mean.units) high turn }
     {
-        high == TURN || i64::from(self.mean.units) + FALL < self.k(high)
+        let mean = i64::from(self.mean.units);
+        high == TURN || mean + FALL < self.k(high)
     }
 
     // The first cell around the guess g that is sure, or the turn. One that is not has an end too close to E, or does not hold it.
     // A round number ends cells of every length but the turn's, so few are tried.
-    fn sure_cell(&self, g: u64) -> Bracket
-        requires { InTurn g }
+    fn sure_cell(&self, g: u32) -> Bracket
         ensures { GoesOnIn self.now.eccentricity self.now.mean.units result }
     {
         for s in TRIED {
@@ -170,18 +163,16 @@ impl Equation<'_> {
 }
 
 // The anomaly, or the end of the turn beyond which it lies.
-fn in_turn(anomaly: i64) -> u64
-    ensures { InTurn result }
-{
-    anomaly.clamp(0, LAST) as u64
+fn in_turn(anomaly: i64) -> u32 {
+    anomaly.clamp(0, LAST) as u32
 }
 
 // The cell of 2^s units that holds g.
-fn cell(g: u64, s: u32) -> Bracket
-    requires { (InTurn g) × (Halvings s) }
+fn cell(g: u32, s: u32) -> Bracket
+    requires { Halvings s }
     ensures { result ≡ cell_at g s }
 {
-    let low = (g >> s) << s;
+    let low = (u64::from(g) >> s) << s;
     Bracket {
         low,
         high: low + (1 << s),

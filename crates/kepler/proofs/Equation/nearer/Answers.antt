@@ -1,10 +1,9 @@
 -- `Equation::nearer` meets its contract: the last sum fits, since no quotient is further from 0 than what is divided.
-use Prim.Native.Nat.{◌-◌, ◌%◌, ◌≤◌}
+use Prim.Native.Nat.{◌≤◌}
 use native.Mathlib.Nat.{le_refl}
 use native.Mathlib.Omega.{arith}
-use lib.IntN.{pos, ◌-ℤ◌}
-use Rattle.fixed.specs.Within.{Within}
-use Rattle.fixed.proofs.Machine.{loc, fit, held, called, cast, plain, sum, difference, product}
+use lib.IntN.{◌-ℤ◌}
+use Rattle.fixed.proofs.Machine.{loc, fit, held, called, cast, sum, difference, product}
 use Rattle.fixed.proofs.Within.{quotient-within}
 use Rattle.fixed.proofs.Mirrored.{test_above}
 use Rattle.angle.specs.Turn.{turn}
@@ -14,10 +13,10 @@ use Rattle.kepler.proofs.Equation.nearer.Goals as goal
 
 pub overflow_add-low-2 : goal.overflow_add-low-2
 overflow_add-low-2 c =
-    let at_low : c.args.at - c.args.at % segment ≤ turn = omega arith in
+    let at_low : c.from-low.result ≤ turn = omega arith in
     let small : c.args.self.now.mean.units ≤ turn = omega arith in
-    let width : Within (pos segment) segment = record { within = le_refl segment } in
-    let missing = held (difference (natural c.from.ensures small tt) (held c.k-here.ensures tt)) tt in
-    let divided = held (product missing (plain width)) tt in
+    let width = natural c.from-3.ensures (le_refl segment) tt in
+    let missing = held (difference (natural c.from-2.ensures small tt) (held c.k-here.ensures tt)) tt in
+    let divided = held (product missing width) tt in
     let rises = (test_above (loc (loc c.k.result -ℤ loc c.k-here.result)) c.if-rise-le0.false).1 in
     fit (sum (cast at_low tt) (held (called c.floor_div.ensures (quotient-within _ divided.bound rises)) tt)) tt

@@ -7,7 +7,7 @@ pub returns-then-no_from : goal.returns-then-no_from
 returns-then-no_from c =
     let lower = c.yes_up_to.ensures c.if-yes_up_to.true in
     let upper = c.no_from.ensures c.if-no_from.true in
-    (_, goes_on c.args.g _ c.requires (search rules) c.cell-c.ensures _ _ lower upper)
+    (_, goes_on c.args.g _ c.ranges.g.fits (search rules) c.cell-c.ensures _ _ lower upper)
 
 pub returns : goal.returns
 returns c = (32, whole _ _)

@@ -20,7 +20,7 @@ fn line(rt: &impl Print, sky: &Sky, at: u64) -> io::Result<()> {
     println!(rt; "{at} {x} {y} {depth} {seen} {up}")
 }
 
-// Twelve lines from t0 on, a step apart, under the record's job number.
+// Twelve lines from t0 on, a step apart, under the record's job number. That the record is whole stays a clause, as in `job`.
 fn lines(rt: &impl Print, sky: &Sky, s: &[u8]) -> io::Result<()>
     requires { WholeRecord s.now }
 {

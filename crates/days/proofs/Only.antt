@@ -1,11 +1,17 @@
 -- The contracts of the public functions, as the check reads them off the source, leave one answer and one lent summary only: each is an equation.
 use Rattle.determined.specs.Determined.{OneResult, OneList, by_value}
+use Rattle.days.proofs.FaultFromRefusal.from.Kinds as from
+use Rattle.days.proofs.FaultFromRefusal.from.Reads as from-reads
 use Rattle.days.proofs.told.Kinds as told
 use Rattle.days.proofs.told.Reads as told-reads
 use Rattle.days.proofs.summary.Kinds as summary
 use Rattle.days.proofs.summary.Reads as summary-reads
 use Rattle.days.proofs.append.Kinds as append
 use Rattle.days.proofs.append.Reads as append-reads
+
+-- the job's own refusal as the reason
+pub from_only : OneResult 0 from.ps from.r from-reads.Post
+from_only κs a x y s t p q = by_value _ p q
 
 pub told_only : OneResult 0 told.ps told.r told-reads.Post
 told_only κs a x y s t p q = by_value _ p q

@@ -1,11 +1,23 @@
 -- The contracts of the door, as the check reads them off the source, leave one answer, one lent buffer and one answer's bytes only: each is an equation.
 use Rattle.determined.specs.Determined.{OneResult, OneList, by_value}
+use Rattle.door.proofs.AnswerFromResultFoundRefusal.from.Kinds as from-outcome
+use Rattle.door.proofs.AnswerFromResultFoundRefusal.from.Reads as from-outcome-reads
+use Rattle.door.proofs.AnswerFromResultUsizeFault.from.Kinds as from-totals
+use Rattle.door.proofs.AnswerFromResultUsizeFault.from.Reads as from-totals-reads
 use Rattle.door.proofs.quechotzal_list.Kinds as quechotzal-list
 use Rattle.door.proofs.quechotzal_list.Reads as quechotzal-list-reads
 use Rattle.door.proofs.quechotzal_days.Kinds as quechotzal-days
 use Rattle.door.proofs.quechotzal_days.Reads as quechotzal-days-reads
 use Rattle.door.proofs.quechotzal_append.Kinds as quechotzal-append
 use Rattle.door.proofs.quechotzal_append.Reads as quechotzal-append-reads
+
+-- what came of a job, in numbers
+pub from-outcome_only : OneResult 0 from-outcome.ps from-outcome.r from-outcome-reads.Post
+from-outcome_only κs a x y s t p q = by_value _ p q
+
+-- and of its totals
+pub from-totals_only : OneResult 0 from-totals.ps from-totals.r from-totals-reads.Post
+from-totals_only κs a x y s t p q = by_value _ p q
 
 pub quechotzal_list_only : OneResult 3 quechotzal-list.ps quechotzal-list.r quechotzal-list-reads.Post
 quechotzal_list_only κs a x y s t p q = by_value _ p.0 q.0

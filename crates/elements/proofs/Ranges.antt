@@ -10,8 +10,10 @@ use Rattle.refusal.specs.Rows.{Verdict}
 use Rattle.std.specs.Float.{float_is_finite}
 use Rattle.std.specs.Ordering.{float_partial_cmp, is_some_and, is_le, is_lt, partial_le, partial_lt}
 use Rattle.std.specs.declared.cmp.Ordering.TheVariants.{Less, Equal, Greater}
+use Rattle.std.specs.declared.ops.Bound.{Bound}
 use Rattle.std.specs.declared.ops.Bound.TheVariants.{Included, Excluded}
-use Rattle.elements.specs.Field.{within, below, accepts, judge, field_row_of}
+use Rattle.nearest.specs.Nearest.{number}
+use Rattle.elements.specs.Field.{within, below, accepts, judge, field_row_of, turn_in}
 
 pub std_finite : (x : Float) → float_is_finite x ≡ finite x
 unfolding float_is_finite
@@ -56,3 +58,7 @@ module _ (s : List ℕ) (k : ℕ) (x : Float) {v : Verdict} {low high a b : Floa
 
   pub excluded : v ≡ field_row_of s k x (accepts (Included a) (Excluded b)) → a ≡ low → b ≡ high → v ≡ field_row_of s k x (below low high)
   excluded h p q = h ∙ ap (judge s k x) (up_to a b x ∙ (λ i. below (p i) (q i) x))
+
+-- and for `0.0..360.0`, by its ends as its type has them: the row of a turn
+pub of_a_turn : (s : List ℕ) (k : ℕ) (x : Float) {v : Verdict} {from to : Bound Float} → v ≡ field_row_of s k x (accepts from to) → from ≡ Included (number 0) → to ≡ Excluded (number 360) → v ≡ field_row_of s k x turn_in
+of_a_turn s k x h p q = excluded s k x (h ∙ (λ i. field_row_of s k x (accepts (p i) (q i)))) refl refl

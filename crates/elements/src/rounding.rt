@@ -31,13 +31,13 @@ pub fn rounded(e: Elements) -> Wholes
     ensures { result ≡ wholes_of e }
 {
     Wholes {
-        axis: nearest::thousandths(e.axis),
+        axis: nearest::metres(e.axis),
         eccentricity: nearest::eccentricity(e.eccentricity),
         inclination: Angle::from_degrees(e.inclination),
         node: Angle::from_degrees(e.node),
         periapsis: Angle::from_degrees(e.periapsis),
-        period: nearest::thousandths(e.period),
-        radius: nearest::thousandths(e.radius),
+        period: nearest::milliseconds(e.period),
+        radius: nearest::metres(e.radius),
         ascension: Angle::from_degrees(e.ascension),
         declination: Angle::from_degrees(e.declination),
         latitude: Angle::from_degrees(e.latitude),

@@ -2,8 +2,10 @@
 use Rattle.determined.specs.Determined.{OneResult, by_value}
 use Rattle.geometry.proofs.rotation_of.Kinds as rotation-of
 use Rattle.geometry.proofs.rotation_of.Reads as rotation-of-reads
-use Rattle.geometry.proofs.Sky.new.Kinds as prepare
-use Rattle.geometry.proofs.Sky.new.Reads as prepare-reads
+use Rattle.geometry.proofs.prepare.Kinds as prepare
+use Rattle.geometry.proofs.prepare.Reads as prepare-reads
+use Rattle.geometry.proofs.Sky.new.Kinds as new
+use Rattle.geometry.proofs.Sky.new.Reads as new-reads
 use Rattle.geometry.proofs.Sky.place.Kinds as place
 use Rattle.geometry.proofs.Sky.place.Reads as place-reads
 use Rattle.geometry.proofs.Orbit.depth.Kinds as depth
@@ -22,6 +24,9 @@ rotation_of_only κs a x y s t p q = by_value _ p q
 
 pub prepare_only : OneResult 1 prepare.ps prepare.r prepare-reads.Post
 prepare_only κs a x y s t p q = by_value _ p q
+
+pub new_only : OneResult 1 new.ps new.r new-reads.Post
+new_only κs a x y s t p q = by_value _ p q
 
 pub place_of_only : OneResult 2 place.ps place.r place-reads.Post
 place_of_only κs a x y s t p q = by_value _ p.0 q.0

@@ -79,7 +79,7 @@ impl Orbit {
 // A job's orbit with the sine table that reads it. Its numbers are as small as those of accepted elements.
 #[derive(Drop)]
 pub struct Sky<'a> {
-    pub sines: &'a Sines,
+    pub sines: Sines<'a>,
     pub orbit: Orbit,
 }
 
@@ -128,7 +128,7 @@ fn ellipse_of(w: Wholes) -> Ellipse
 
 // The rotation of the elements, as three rows of three, built once for a job. Table and whole numbers stand beside each other in four functions until
 // `Sky::new` is done, and never again, so no type has both.
-pub fn rotation_of(sines: &Sines, w: Wholes) -> [[i64; 3]; 3]
+pub fn rotation_of(sines: Sines, w: Wholes) -> [[i64; 3]; 3]
     ensures { result ≡ rotation_for w }
 {
     rotation::rotation(
@@ -139,7 +139,7 @@ pub fn rotation_of(sines: &Sines, w: Wholes) -> [[i64; 3]; 3]
 }
 
 // E, the body direction.
-fn toward(sines: &Sines, w: Wholes) -> [i64; 3]
+fn toward(sines: Sines, w: Wholes) -> [i64; 3]
     ensures { result ≡ toward_of w }
 {
     rotation::direction(
@@ -149,7 +149,7 @@ fn toward(sines: &Sines, w: Wholes) -> [i64; 3]
 }
 
 // Ep, Eq and E.
-fn body_of(sines: &Sines, w: Wholes) -> Body
+fn body_of(sines: Sines, w: Wholes) -> Body
     ensures { result ≡ body_of w }
 {
     let m = rotation_of(sines, w);
@@ -162,13 +162,25 @@ fn body_of(sines: &Sines, w: Wholes) -> Body
 }
 
 // The station's turn of latitude, longitude + Greenwich, and the sine of field 13.
-fn station_of(sines: &Sines, w: Wholes) -> Station
+fn station_of(sines: Sines, w: Wholes) -> Station
     ensures { result ≡ station_of w }
 {
     Station {
         latitude: rotation::turn_of(sines, w.latitude),
         meridian: w.longitude.add(w.greenwich),
         least: sines.sine(w.elevation),
+    }
+}
+
+// What is fixed for a job, made once.
+pub fn prepare(sines: Sines, w: Wholes) -> Orbit
+    requires { Bounded w }
+    ensures { result ≡ orbit_of w }
+{
+    Orbit {
+        ellipse: ellipse_of(w),
+        body: body_of(sines, w),
+        station: station_of(sines, w),
     }
 }
 
@@ -181,16 +193,12 @@ fn term(at: u64) -> Angle
 }
 
 impl<'a> Sky<'a> {
-    // What is fixed for a job, made once.
-    pub fn new(sines: &'a Sines, w: Wholes) -> Sky<'a>
+    // The orbit of whole numbers, with the table.
+    pub fn new(sines: Sines<'a>, w: Wholes) -> Sky<'a>
         requires { Bounded w }
         ensures { result ≡ orbit_of w }
     {
-        let orbit = Orbit {
-            ellipse: ellipse_of(w),
-            body: body_of(sines, w),
-            station: station_of(sines, w),
-        };
+        let orbit = prepare(sines, w);
         Sky { sines, orbit }
     }
 

@@ -1,7 +1,15 @@
 -- The search by halving (document 01, "Place in the orbit" and "The list"), over any yes/no answer.
-use Rattle.std.specs.Prelude.{ℕ, zero, suc, ◌+◌, ◌/◌, ◌≡◌, Bool, cond, ltb}
+use Rattle.std.specs.Prelude.{ℕ, zero, suc, ◌+◌, ◌/◌, ◌≤◌, ◌<◌, ◌≡◌, Bool, cond, ltb}
 use mathlib.Core.List.{List, [], ◌∷◌, Memᴰ}
 use Rattle.halving.specs.declared.Edge.{Edge}
+
+-- the ends of a search are in order
+abbrev pub InOrder : ℕ → ℕ → Type 0
+InOrder low high = low ≤ high
+
+-- a search between these ends may ask at each point between them
+abbrev pub AskableBetween : (ℕ → Type 0) → ℕ → ℕ → Type 0
+AskableBetween can_ask low high = (m : ℕ) → low < m → m < high → can_ask m
 
 -- the middle is floor((low + high) / 2)
 abbrev pub middle : ℕ → ℕ → ℕ

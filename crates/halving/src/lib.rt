@@ -1,8 +1,8 @@
 // A search by halving, by the rule of specs/Halving.antt (its laws: proofs/Laws.antt). With less work it may begin in a cell (proofs/Cells.antt).
 #![tactic(auto)]
 
-ghost use Rattle.std.specs.Prelude.{◌≡◌, ℕ, ◌+◌, ◌^◌, ◌≤◌, ◌<◌, Bool};
-ghost use Rattle.halving.specs.Halving.{halve};
+ghost use Rattle.std.specs.Prelude.{◌≡◌, ℕ, ◌+◌, ◌^◌, ◌≤◌, Bool};
+ghost use Rattle.halving.specs.Halving.{InOrder, AskableBetween, halve};
 
 // Where a search ends, and how many middles it asked.
 #[derive(Clone, Copy)]
@@ -28,8 +28,8 @@ pub trait Search {
 // The neighbours at which the search between two ends stops: as many halvings as the ends need.
 #[inline]
 pub fn halve<S: Search>(search: &S, low: u64, high: u64) -> Edge
-    requires ordered { low ≤ high }
-    requires askable { (m : ℕ) → low < m → m < high → S.can_ask search.now m }
+    requires ordered { InOrder low high }
+    requires askable { AskableBetween (S.can_ask search.now) low high }
     ensures { (n : ℕ) → high ≤ low + 2 ^ n → result ≡ halve (S.moves search.now) n low high 0 }
 {
     let mut edge = Edge {

@@ -36,7 +36,7 @@ fn lines(rt: &impl Print, sky: &Sky, s: &[u8]) -> io::Result<()>
 }
 
 // The lines of one record.
-fn show(rt: &impl Print, sines: &Sines, s: &[u8]) -> io::Result<()> {
+fn show(rt: &impl Print, sines: Sines, s: &[u8]) -> io::Result<()> {
     match elements::reading::read(s) {
         Ok(e) => {
             let sky = Sky::new(sines, elements::rounding::rounded(e));
@@ -47,7 +47,7 @@ fn show(rt: &impl Print, sines: &Sines, s: &[u8]) -> io::Result<()> {
 }
 
 // The next record's lines.
-fn next(rt: &impl Print, input: &mut impl Read, sines: &Sines) -> io::Result<()> {
+fn next(rt: &impl Print, input: &mut impl Read, sines: Sines) -> io::Result<()> {
     let mut s = [0u8; RECORD];
     let n = streams::fill(input, &mut s)?;
     show(rt, sines, &s[..n])
@@ -55,10 +55,11 @@ fn next(rt: &impl Print, input: &mut impl Read, sines: &Sines) -> io::Result<()>
 
 // The table is made once and lent to each of the three records.
 fn main(rt: HostRuntime) -> io::Result<()> {
-    let sines = Sines::new();
+    let table = sine::table();
+    let sines = Sines { entries: &table };
     let mut input = rt.stdin();
     for _ in 0..3u32 {
-        next(&rt, &mut input, &sines)?;
+        next(&rt, &mut input, sines)?;
     }
     Ok(())
 }

@@ -7,7 +7,7 @@ use mathlib.Core.List.{List, [], ◌∷◌}
 use native.Mathlib.Omega.{arith}
 use native.Mathlib.Nat.{le-div_iff_mul-le, div-lt_iff_lt-mul, suc-mul}
 use borrow.Author.Tests.{ltb-true, ltb-false, leb-false, eqb-true, eqb-false, lt-ltb, le-ltb}
-use lib.Dec.{eqb, ltb, leb}
+use lib.Dec.{eqb, ltb, leb, lit≤}
 use Rattle.std.specs.Prelude.{Err}
 use Rattle.refusal.specs.Rows.{Verdict, passed, ◌then◌, first, row_at}
 use Rattle.refusal.specs.Refusal.{number_of, field_of, zero, value_of, bits_of}
@@ -47,8 +47,13 @@ pub decided : (v : Verdict) → first (v ∷ []) ≡ v
 unfolding first
 decided v = then-passed v
 
+-- two that `then` joins are the table of both
+pub joined : (a b : Verdict) → (a then b) ≡ first (a ∷ b ∷ [])
+unfolding first
+joined a b = ap (λ (v : Verdict). a then v) (sym (then-passed b))
+
 -- for the check of `window_to_question`
-pub ruleset rows = (stopped, handed_on, decided)
+pub ruleset rows = (stopped, handed_on, decided, joined)
 
 -- ---- steps
 
@@ -123,6 +128,17 @@ unfolding no_room_of
 roomy w room h = ltb-false room (room_of w) (when-passed (no_room_of w room) refusal.Room h)
 
 -- ---- numbers
+
+pub number-most : (r : Refusal) → number_of r ≤ 9
+number-most refusal.Length = lit≤ tt
+number-most refusal.Word = lit≤ tt
+number-most (refusal.NotFinite k x b) = lit≤ tt
+number-most (refusal.OutOfRange k x) = lit≤ tt
+number-most (refusal.TooClose d) = lit≤ tt
+number-most refusal.Window = lit≤ tt
+number-most refusal.Step = lit≤ tt
+number-most refusal.Question = lit≤ tt
+number-most refusal.Room = lit≤ tt
 
 -- of the refusals 1, 2 and 6 to 9 the table says: field 0, number 0.0
 pub else_returns : (r : Refusal) → (number_of r ≡ 3 → ⊥) → (number_of r ≡ 4 → ⊥) → (number_of r ≡ 5 → ⊥) → (field_of r ≡ 0) × (value_of r ≡ zero) × (bits_of r ≡ 0)

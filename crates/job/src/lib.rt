@@ -16,7 +16,7 @@ use elements::reading::Elements;
 use finder::{Found, Window};
 use geometry::Sky;
 use interval::Interval;
-use refusal::{Refusal, row};
+use refusal::{Refusal, row, then};
 use sine::Sines;
 use words::Word;
 
@@ -83,8 +83,10 @@ fn window_to_question(w: Window, question: u32) -> Result<(), Refusal>
     ensures { result ≡ first (rows_to_question w question) }
 {
     row(bad_window(w), Refusal::Window)?;
-    row(bad_step(w), Refusal::Step)?;
-    row(bad_question(question), Refusal::Question)
+    then(
+        row(bad_step(w), Refusal::Step),
+        row(bad_question(question), Refusal::Question),
+    )
 }
 
 // ---- refusal 9, and the list
@@ -108,8 +110,8 @@ fn from_room(e: Elements, question: u32, w: Window, list: &mut [u8]) -> Result<F
     ensures list_after { list.new ≡ sets list.old 0 (records_by (room_row w (length list.old)) e question w) }
 {
     row(no_room(w, list.len()), Refusal::Room)?;
-    let sines = Sines::new();
-    let sky = Sky::new(&sines, elements::rounding::rounded(e));
+    let table = sine::table();
+    let sky = Sky::new(Sines { entries: &table }, elements::rounding::rounded(e));
     Ok(finder::list(&sky, question, w, list))
 }
 

@@ -54,7 +54,7 @@ pub fn phase(period: u32, at: u64) -> Angle
 // clause `UpToATurn`: sums go beyond a turn, so a type of those up to a turn would be left at each step, and be no plainer.
 #[derive(Drop)]
 struct Equation<'a> {
-    sines: &'a Sines,
+    sines: Sines<'a>,
     eccentricity: u32,
     mean: Angle,
     ghost bounded: { Eccentricity eccentricity },
@@ -181,7 +181,7 @@ fn cell(g: u32, s: u32) -> Bracket
 
 // The eccentric anomaly E: the low end of the search from 0 and a turn, once its ends are neighbours. Of its 32 halvings those are made
 // that are left in the cell.
-pub fn eccentric(sines: &Sines, e: u32, m: Angle) -> Angle
+pub fn eccentric(sines: Sines, e: u32, m: Angle) -> Angle
     requires { Eccentricity e }
     ensures { result.units ≡ kepler_of e m.units }
 {

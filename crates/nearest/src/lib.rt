@@ -3,7 +3,7 @@
 #![tactic(auto)]
 
 ghost use Rattle.std.specs.Prelude.{◌≡◌, ◌+◌, ◌/◌, ◌^◌};
-ghost use Rattle.nearest.specs.Nearest.{nearest_of, eccentricity_of, units_of, UpTo};
+ghost use Rattle.nearest.specs.Nearest.{nearest_of, metres_of, milliseconds_of, eccentricity_of, units_of, UpTo};
 ghost use Rattle.nearest.specs.Pattern.{digits_of, shift_of, ByShift};
 
 // n / 2^k, for a k that may pass the width.
@@ -62,6 +62,22 @@ pub fn thousandths(x: f64) -> u32
 {
     let bits = x.to_bits();
     halved(shifted(digits(bits) * 2000, shift(bits))) as u32
+}
+
+// A length in km, in metres.
+pub fn metres(x: f64) -> u32
+    requires { UpTo 21 x }
+    ensures { result ≡ metres_of x }
+{
+    thousandths(x)
+}
+
+// A time in s, in ms.
+pub fn milliseconds(x: f64) -> u32
+    requires { UpTo 21 x }
+    ensures { result ≡ milliseconds_of x }
+{
+    thousandths(x)
 }
 
 // An eccentricity in units of 2^-30. This and the next function are each one call of `by_power`: one function of both would take numbers where a name

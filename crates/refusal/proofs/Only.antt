@@ -1,7 +1,5 @@
 -- The contracts of the public functions, as the check reads them off the source, leave one answer only: each is an equation.
-use mathlib.Core.Path.{◌≡◌}
 use Rattle.determined.specs.Determined.{OneResult, by_value}
-use Rattle.refusal.specs.Rows.{Verdict, ◌then◌}
 use Rattle.refusal.proofs.Refusal.number.Kinds as number
 use Rattle.refusal.proofs.Refusal.number.Reads as number-reads
 use Rattle.refusal.proofs.Refusal.field.Kinds as field
@@ -12,6 +10,8 @@ use Rattle.refusal.proofs.Refusal.bits.Kinds as bits
 use Rattle.refusal.proofs.Refusal.bits.Reads as bits-reads
 use Rattle.refusal.proofs.row.Kinds as row
 use Rattle.refusal.proofs.row.Reads as row_reads
+use Rattle.refusal.proofs.then.Kinds as then
+use Rattle.refusal.proofs.then.Reads as then-reads
 
 pub number_only : OneResult 0 number.ps number.r number-reads.Post
 number_only κs a x y s t p q = by_value _ p q
@@ -28,6 +28,5 @@ bits_only κs a x y s t p q = by_value _ p q
 pub row_only : OneResult 0 row.ps row.r row_reads.Post
 row_only κs a x y s t p q = by_value _ p q
 
--- and of two rows, which `?` joins (`goes_on` and `ends_at` in Order.antt)
-pub then_only : (a b : Verdict) {v w : Verdict} → v ≡ (a then b) → w ≡ (a then b) → v ≡ w
-then_only a b p q = by_value (a then b) p q
+pub then_only : OneResult 0 then.ps then.r then-reads.Post
+then_only κs a x y s t p q = by_value _ p q

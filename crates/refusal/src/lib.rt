@@ -3,7 +3,7 @@
 
 ghost use Rattle.std.specs.Prelude.{◌≡◌};
 ghost use Rattle.refusal.specs.Refusal.{number_of, field_of, value_of, bits_of};
-ghost use Rattle.refusal.specs.Rows.{when};
+ghost use Rattle.refusal.specs.Rows.{when, ◌then◌};
 
 use std::num::f64_to_bits_with_nan;
 
@@ -82,4 +82,14 @@ pub fn row(test: bool, r: Refusal) -> Result<(), Refusal>
         return Err(r);
     }
     Ok(())
+}
+
+// The refusal of `a`, or else what `b` says.
+pub fn then(a: Result<(), Refusal>, b: Result<(), Refusal>) -> Result<(), Refusal>
+    ensures { result ≡ (a then b) }
+{
+    match a {
+        Err(_) => a,
+        Ok(()) => b,
+    }
 }

@@ -31,7 +31,7 @@ impl Model for Turn {
 }
 
 // The turn of an angle: each is read off the table once and used in several products.
-pub fn turn_of(sines: &Sines, theta: Angle) -> Turn
+pub fn turn_of(sines: Sines, theta: Angle) -> Turn
     ensures { result ≡ turn_of theta.units }
 {
     let cos = sines.cosine(theta);

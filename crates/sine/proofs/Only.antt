@@ -1,7 +1,7 @@
 -- The contracts of the public functions, as the check reads them off the source, leave one answer only: each is an equation.
 use Rattle.determined.specs.Determined.{OneResult, by_value}
-use Rattle.sine.proofs.Sines.new.Kinds as table
-use Rattle.sine.proofs.Sines.new.Reads as table-reads
+use Rattle.sine.proofs.table.Kinds as table
+use Rattle.sine.proofs.table.Reads as table-reads
 use Rattle.sine.proofs.Sines.sine.Kinds as sine
 use Rattle.sine.proofs.Sines.sine.Reads as sine-reads
 use Rattle.sine.proofs.Sines.cosine.Kinds as cosine

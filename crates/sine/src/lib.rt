@@ -8,28 +8,24 @@ mod entries;
 
 use angle::Angle;
 use entries::TABLE;
-use std::marker::Model;
 
 const SEGMENTS: u32 = 4096;
 
 // The units from one entry to the next.
 pub const SEGMENT: u32 = Angle::QUARTER.units / SEGMENTS;
 
-// The table, which callers see as the list of its entries. It is made once and lent: an indexed constant would be copied at every read.
-#[derive(Drop)]
-pub struct Sines {
-    pub entries: [u32; 4097],
+// The table, by its rule, to be made once and lent.
+pub fn table() -> [u32; 4097]
+    ensures { result ≡ sines }
+{
+    TABLE
 }
 
-impl Model for Sines {
-    ghost use Rattle.std.specs.Prelude.{◌≡◌, ℕ, List};
-    ghost use Rattle.sine.specs.Sine.{sines};
-
-    ghost Value = { List ℕ };
-
-    ghost view = { λ t. t.entries };
-
-    ghost invariant = { λ t. t.entries ≡ sines };
+// The table as it is lent: any slice that has its entries. An indexed constant would be copied at every read.
+#[derive(Clone, Copy)]
+pub struct Sines<'a> {
+    pub entries: &'a [u32],
+    pub ghost whole: { entries.now ≡ sines },
 }
 
 // The value at r units of a segment that goes from low to high.
@@ -41,16 +37,9 @@ fn way(low: u32, high: u32, r: u32) -> u32
     low + (rise * u64::from(r) / u64::from(SEGMENT)) as u32
 }
 
-impl Sines {
-    // The table, by its rule.
-    pub fn new() -> Sines
-        ensures { result ≡ sines }
-    {
-        Sines { entries: TABLE }
-    }
-
+impl Sines<'_> {
     // Entry k.
-    fn entry(&self, k: u32) -> u32
+    fn entry(self, k: u32) -> u32
         requires { IsEntry k }
         ensures { result ≡ entry_at k }
     {
@@ -58,7 +47,7 @@ impl Sines {
     }
 
     // The reading at g units of the first quarter turn, before its end.
-    fn reading(&self, g: u32) -> u32
+    fn reading(self, g: u32) -> u32
         requires { InQuarter g }
         ensures { result ≡ reading_of g }
     {
@@ -68,7 +57,7 @@ impl Sines {
 
     // The sine's size: the reading at the angle folded into the first quarter turn. That an odd quadrant is read backward is a branch, and only
     // there the quarter's end is met: a search that stays in a quadrant has both foreseen.
-    fn size(&self, theta: Angle) -> u32
+    fn size(self, theta: Angle) -> u32
         ensures { result ≡ reading_of (fold_of theta.units) }
     {
         let f = theta.units % Angle::QUARTER.units;
@@ -82,7 +71,7 @@ impl Sines {
     }
 
     // The sine, in units of 2^-30.
-    pub fn sine(&self, theta: Angle) -> i64
+    pub fn sine(self, theta: Angle) -> i64
         ensures { result ≡ sine_of theta.units }
     {
         let s = i64::from(self.size(theta));
@@ -94,7 +83,7 @@ impl Sines {
     }
 
     // The cosine, in units of 2^-30.
-    pub fn cosine(&self, theta: Angle) -> i64
+    pub fn cosine(self, theta: Angle) -> i64
         ensures { result ≡ cosine_of theta.units }
     {
         self.sine(theta.add(Angle::QUARTER))

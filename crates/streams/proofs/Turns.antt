@@ -18,11 +18,12 @@ use Rattle.streams.specs.Buffer.{tail_of}
 use Rattle.streams.specs.Answered.{Whole, Taken}
 use Rattle.streams.proofs.Laws.{reads_on, read_more, tail_kept}
 
-module _ {F : Type 0} (g : Mut F (Bor (List ℕ) × Unit {0}) (Result (Unit {0}) Failure)) where
+-- the buffer has so many bytes
+module _ (room : ℕ) {F : Type 0} (g : Mut F (Bor (List ℕ) × Unit {0}) (Result (Unit {0}) Failure)) where
   -- after so many turns, from f and the bytes `old` to f' and `new`
   pub record Along (f : F) (old : Option (List ℕ)) (f' : F) (new : Option (List ℕ)) (kept : ℕ) (buf : List ℕ) (turns : ℕ) : Type 0 where
     pub front : List ℕ
-    pub taken : Taken g f front f'
+    pub taken : Taken room g f front f'
     pub given : Consumes old new (front ++ take kept buf)
     pub short : kept < 136
     pub counted : turns ≤ length front + kept
@@ -35,27 +36,27 @@ module _ {F : Type 0} (g : Mut F (Bor (List ℕ) × Unit {0}) (Result (Unit {0})
   pub set_out : (f : F) (known : Option (List ℕ)) (buf : List ℕ) → Along f known f known 0 buf 0
   set_out f known buf = record {
     front = [];
-    taken = record { pieces = []; whole = All-nil Whole; called = refl; are = refl };
+    taken = record { pieces = []; whole = All-nil (Whole room); called = refl; are = refl };
     given = reads-none known;
     short = omega arith;
     counted = omega arith;
   }
 
   -- one call more, at whole records
-  took-more : {f f' f'' : F} {bs : List ℕ} (s : List ℕ) → Taken g f bs f' → Whole s → CalledAt g f' s (Ok tt) f'' → Taken g f (bs ++ s) f''
+  took-more : {f f' f'' : F} {bs : List ℕ} (s : List ℕ) → Taken room g f bs f' → Whole room s → CalledAt g f' s (Ok tt) f'' → Taken room g f (bs ++ s) f''
   took-more {f} {f'} {f''} {bs} s t is call = record {
     pieces = t.pieces ++ s ∷ [];
-    whole = All-push Whole t.pieces s t.whole is;
+    whole = All-push (Whole room) t.pieces s t.whole is;
     called = FoldsTo-push (λ p x q. CalledAt g p x (Ok tt) q) f t.pieces f' s f'' t.called call;
     are = ap (λ (xs : List ℕ). xs ++ s) t.are ∙ ap (λ (xs : List ℕ). concat t.pieces ++ xs) (sym (append-nil s)) ∙ sym (concat-append t.pieces (s ∷ []));
   }
 
   module _ {f : F} {old : Option (List ℕ)} {f' : F} {new : Option (List ℕ)} {kept : ℕ} {buf : List ℕ} {turns : ℕ} (i : Along f old f' new kept buf turns) where
     -- got bytes more, which stand in `after`
-    module _ (new' : Option (List ℕ)) (got : ℕ) (s rest after : List ℕ) (room : kept ≤ length buf) (fits : got ≤ length s)
+    module _ (new' : Option (List ℕ)) (got : ℕ) (s rest after : List ℕ) (stay : kept ≤ length buf) (fits : got ≤ length s)
         (is : after ≡ take kept buf ++ (s ++ rest)) (some : 0 < got) (gave : Consumes new new' (take got s)) where
       stands : take (kept + got) after ≡ take kept buf ++ take got s
-      stands = ap (take (kept + got)) is ∙ read_more buf s rest kept got room fits
+      stands = ap (take (kept + got)) is ∙ read_more buf s rest kept got stay fits
 
       now : Consumes old new' (i.front ++ take (kept + got) after)
       now =
@@ -67,7 +68,7 @@ module _ {F : Type 0} (g : Mut F (Bor (List ℕ) × Unit {0}) (Result (Unit {0})
       still_short h = record { front = i.front; taken = i.taken; given = now; short = h; counted = omega (arith, i.counted) }
 
       -- the whole records are answered, and the tail is kept
-      module _ (f'' : F) (tail : ℕ) (moved : List ℕ) (filled : kept + got ≤ length after) (h : 136 ≤ kept + got) (t : tail ≡ (kept + got) % 136)
+      module _ (f'' : F) (tail : ℕ) (moved : List ℕ) (filled : kept + got ≤ length after) (in_room : length after ≤ room) (h : 136 ≤ kept + got) (t : tail ≡ (kept + got) % 136)
           (m : moved ≡ sets after 0 (tail_of (kept + got) after)) where
         abbrev whole : ℕ
         whole = kept + got - (kept + got) % 136
@@ -85,7 +86,7 @@ module _ {F : Type 0} (g : Mut F (Bor (List ℕ) × Unit {0}) (Result (Unit {0})
         pub answered : CalledAt g f' (take whole after) (Ok tt) f'' → Along f old f'' new' tail moved (turns + 1)
         answered call = record {
           front = i.front ++ take whole after;
-          taken = took-more (take whole after) i.taken (omega (arith, long), rw long (omega arith)) call;
+          taken = took-more (take whole after) i.taken (omega (arith, long), rw long (omega arith), omega (arith, long)) call;
           given = subst (Consumes old new') (ap (λ (xs : List ℕ). i.front ++ xs) both ∙ sym (append_assoc i.front (take whole after) (take tail moved))) now;
           short = omega arith;
           counted = omega (arith, i.counted, long, length-append i.front (take whole after));

@@ -8,3 +8,7 @@ tail_of filled buf = take (filled % 136) (drop (filled - filled % 136) buf)
 -- the buffer has so many bytes
 abbrev pub Filled : ℕ → List ℕ → Type 0
 Filled filled buf = filled ≤ length buf
+
+-- the buffer has room for a record
+abbrev pub HoldsARecord : List ℕ → Type 0
+HoldsARecord buf = 136 ≤ length buf

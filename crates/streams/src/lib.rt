@@ -6,7 +6,7 @@ ghost use Rattle.std.specs.Prelude.{◌≡◌, ◌-◌, ◌%◌, ◌^◌, ◌≤
 ghost use Rattle.std.specs.Process.{exit_status};
 ghost use Rattle.std.specs.Io.KnownBytes.{Consumes, IsAtEnd};
 ghost use Rattle.std.proofs.lemmas.List.Edits.{sets};
-ghost use Rattle.streams.specs.Buffer.{tail_of, Filled};
+ghost use Rattle.streams.specs.Buffer.{tail_of, Filled, HoldsARecord};
 ghost use Rattle.streams.specs.Answered.{Answered};
 ghost use Rattle.streams.specs.Status.{status_of};
 
@@ -89,9 +89,9 @@ pub fn run<R: Read, F: FnMut(&[u8]) -> Result<(), Failure>>(
     buf: &mut [u8],
     mut answer: F,
 ) -> Result<(), Failure>
-    requires room { 136 ≤ length buf.old }
+    requires room { HoldsARecord buf.old }
     requires callable { F.IsAlwaysCallable answer }
-    ensures { OnOk result (IfSome (R.remaining input.old) (λ xs. length xs < 2 ^ 64 - 1 → Answered F.FnMut answer xs)) }
+    ensures { OnOk result (IfSome (R.remaining input.old) (λ xs. length xs < 2 ^ 64 - 1 → Answered (length buf.old) F.FnMut answer xs)) }
 {
     let mut kept = 0;
     for _turn in 0..u64::MAX {

@@ -1,4 +1,4 @@
--- The laws of a reply: the summary of the job's own list is worked out behind the head, and the two are the reply.
+-- The laws of a reply: the summary of the job's own list is worked out behind the head, and the two are the reply. And of what is replied to: one record.
 use Prim.Native.Nat.{ℕ, ◌+◌, ◌-◌, ◌*◌, ◌≤◌}
 use mathlib.Core.Path.{◌≡◌, refl, sym, ap, ◌∙◌}
 use mathlib.Core.List.{List, ◌++◌, append_assoc}
@@ -30,7 +30,8 @@ use Rattle.days.specs.Totals.{Totals, numbers_of, totals_of, summary_after_of}
 use Rattle.days.proofs.Records.{length-summary}
 use Rattle.days.proofs.Cases.{days-most}
 use Rattle.days.proofs.Ours.{ours_accepted, ours_spans}
-use Rattle.totals.specs.Reply.{reply_by, reply_of}
+use Rattle.streams.specs.Answered.{Whole}
+use Rattle.totals.specs.Reply.{reply_by, reply_of, HoldsOneRecord}
 
 -- what stands behind h, stored before h is, is stored behind it
 sets-before : (h xs l : List ℕ) (at : ℕ) → length h ≡ at → at + length xs ≤ length l → sets (sets l at xs) 0 h ≡ sets l 0 (h ++ xs)
@@ -52,6 +53,12 @@ Replied s out r after = (IsPrefixLen r after × (r ≡ length (reply_of s))) × 
 
 replied : (s out : List ℕ) (r : ℕ) (after : List ℕ) → r ≤ length out → r ≡ length (reply_of s) → after ≡ sets out 0 (reply_of s) → Replied s out r after
 replied s out r after fits long is = ((counts r after (omega (arith, ap length is, length-sets out 0 (reply_of s))), long), is)
+
+-- ---- the pieces
+
+-- by way of a buffer for one record, each piece of whole records is one
+pub one-record : (buf s : List ℕ) → HoldsOneRecord buf → Whole (length buf) s → length s ≡ 136
+one-record buf s one whole = omega (arith, one, whole.0, whole.1, whole.2)
 
 -- ---- a refused job
 

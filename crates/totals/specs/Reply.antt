@@ -1,5 +1,5 @@
 -- What the program writes for one record: a head record, then a summary record for each day (document 02, wish 3).
-use Rattle.std.specs.Prelude.{ℕ, List, ◌++◌, Ok, Err}
+use Rattle.std.specs.Prelude.{ℕ, ◌≡◌, List, ◌++◌, length, Ok, Err}
 use Rattle.interval.specs.declared.Interval.{Interval}
 use Rattle.interval.specs.Record.{record_bytes}
 use Rattle.finder.specs.Spans.{list_of}
@@ -22,3 +22,9 @@ reply_by s (Err r) = record_bytes (closing_of (job_of s) (Err r))
 -- with room for any list, so that no job is refused for want of it
 unfoldable pub reply_of : List ℕ → List ℕ
 reply_of s = reply_by s (outcome_of s room_for_any)
+
+-- ---- what `run` requires
+
+-- a buffer for one record, so that no more than one is answered at a time
+abbrev pub HoldsOneRecord : List ℕ → Type 0
+HoldsOneRecord buf = length buf ≡ 136

@@ -6,9 +6,10 @@
 ghost use Rattle.std.specs.Prelude.{◌≡◌, length};
 ghost use Rattle.std.proofs.lemmas.List.Edits.{sets};
 ghost use Rattle.io.specs.Counts.{IsPrefixLen};
-ghost use Rattle.totals.specs.Reply.{reply_of};
+ghost use Rattle.totals.specs.Reply.{reply_of, HoldsOneRecord};
 
 use finder::Found;
+use std::io::Read;
 use std::process::ExitCode;
 use streams::{Failure, RECORD};
 
@@ -62,15 +63,25 @@ fn answer(
     rt.write_all(&out[..n]).map_err(Failure::Output)
 }
 
-// The buffers: a record, so that each is answered before the next is read, its list and the reply.
+// Answers each record before the next is read: the buffer has room for one alone, and no piece that is handed over is longer than the buffer.
+fn run(
+    rt: &impl Print,
+    input: &mut impl Read,
+    record: &mut [u8],
+    list: &mut [u8; LIST],
+    out: &mut [u8; REPLY],
+) -> Result<(), Failure>
+    requires one_record { HoldsOneRecord «record».old }
+{
+    streams::run(input, record, |s| answer(rt, s, list, out))
+}
+
+// The buffers: a record, its list and the reply.
 fn main(rt: HostRuntime) -> ExitCode {
     let mut record = [0u8; RECORD];
     let mut list = [0u8; LIST];
     let mut out = [0u8; REPLY];
-    let done = streams::run(&mut rt.stdin(), &mut record, |s| {
-        answer(&rt, s, &mut list, &mut out)
-    });
-    match done {
+    match run(&rt, &mut rt.stdin(), &mut record, &mut list, &mut out) {
         Ok(()) => ExitCode::SUCCESS,
         Err(failure) => failure.told(&rt, "totals"),
     }

@@ -2,8 +2,8 @@
 use Rattle.elements.proofs.Range.{axis_range, eccentricity_range, inclination_range, turn_range, period_range, radius_range, latitude_range, elevation_range}
 use Rattle.elements.proofs.rounding.rounded.Goals as goal
 
-pub thousandths-requires : goal.thousandths-requires
-thousandths-requires c = (axis_range c.args.e.axis c.requires.axis_in_lem).up_to
+pub metres-requires : goal.metres-requires
+metres-requires c = (axis_range c.args.e.axis c.requires.axis_in_lem).up_to
 
 pub eccentricity-requires : goal.eccentricity-requires
 eccentricity-requires c = (eccentricity_range c.args.e.eccentricity c.requires.eccentricity_in_lem).up_to
@@ -17,11 +17,11 @@ from_degrees-requires-2 c = (turn_range c.args.e.node c.requires.node_in).up_to
 pub from_degrees-requires-3 : goal.from_degrees-requires-3
 from_degrees-requires-3 c = (turn_range c.args.e.periapsis c.requires.periapsis_in).up_to
 
-pub thousandths-requires-2 : goal.thousandths-requires-2
-thousandths-requires-2 c = (period_range c.args.e.period c.requires.period_in_lem).up_to
+pub milliseconds-requires : goal.milliseconds-requires
+milliseconds-requires c = (period_range c.args.e.period c.requires.period_in_lem).up_to
 
-pub thousandths-requires-3 : goal.thousandths-requires-3
-thousandths-requires-3 c = (radius_range c.args.e.radius c.requires.radius_in_lem).up_to
+pub metres-requires-2 : goal.metres-requires-2
+metres-requires-2 c = (radius_range c.args.e.radius c.requires.radius_in_lem).up_to
 
 pub from_degrees-requires-4 : goal.from_degrees-requires-4
 from_degrees-requires-4 c = (turn_range c.args.e.ascension c.requires.ascension_in).up_to

@@ -12,7 +12,7 @@ import model
 
 def main():
     segments = int(sys.argv[1]) if len(sys.argv) > 1 else model.SEGMENTS
-    print("// The quarter-wave sine table, written by tools/table.py. Its rule is proved in proofs/Sines/new/Answers.antt.")
+    print("// The quarter-wave sine table, written by tools/table.py. Its rule is proved in proofs/table/Answers.antt.")
     print(f"pub const TABLE: [u32; {segments + 1}] = [")
     entries = " ".join(f"{model.entry(k, segments)}," for k in range(segments + 1))
     print(textwrap.fill(entries, 100, initial_indent="    ", subsequent_indent="    "))

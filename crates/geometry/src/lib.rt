@@ -126,7 +126,7 @@ fn ellipse_of(w: Wholes) -> Ellipse
     }
 }
 
-// The rotation of the elements, as three rows of three, built once for a job. Table and whole numbers stand beside each other in four functions until
+// The rotation of the elements, as three rows of three, built once for a job. Table and whole numbers stand beside each other in five functions until
 // `Sky::new` is done, and never again, so no type has both.
 pub fn rotation_of(sines: Sines, w: Wholes) -> [[i64; 3]; 3]
     ensures { result ≡ rotation_for w }

@@ -10,9 +10,9 @@ ghost use Rattle.streams.specs.Buffer.{tail_of, Filled, HoldsARecord};
 ghost use Rattle.streams.specs.Answered.{Answered};
 ghost use Rattle.streams.specs.Status.{status_of};
 
+use std::io;
 use std::io::{ErrorKind, Read};
 use std::process::ExitCode;
-use std::{fmt, io};
 
 // Bytes of a record.
 pub const RECORD: usize = 136;
@@ -27,15 +27,6 @@ pub enum Failure {
     Output(io::Error),
 }
 
-impl fmt::Display for Failure {
-    fn fmt<W: fmt::Write>(&self, f: &mut fmt::Formatter<W>) -> fmt::Result {
-        match self {
-            Failure::Input(e) => write!(f, "standard input: {e}"),
-            Failure::Output(e) => write!(f, "standard output: {e}"),
-        }
-    }
-}
-
 impl Failure {
     // Says on standard error what failed and how; the program's status. Where nobody reads the output any more, nothing is said.
     pub fn told(self, rt: &impl Eprint, program: &str) -> ExitCode
@@ -46,7 +37,10 @@ impl Failure {
                 return ExitCode::from(READER_GONE);
             }
         }
-        let _ = eprintln!(rt; "{program}: {self}");
+        let _ = match self {
+            Failure::Input(e) => eprintln!(rt; "{program}: standard input: {e}"),
+            Failure::Output(e) => eprintln!(rt; "{program}: standard output: {e}"),
+        };
         ExitCode::SUCCESS
     }
 }
